@@ -1,0 +1,33 @@
+-- The users that the words of the command line name.
+use Rattle.std.specs.Prelude.{◌≡◌, ◌≢◌, ◌≤◌, Bool, IsTrue, not, ◌&&◌, nat_le, ℕ, List, [], ◌∷◌, length, codes, All, Contains, ◌<◌}
+use Rattle.std.specs.List.{AllPairs, join_with_byte}
+use Rattle.std.specs.Str.{bytes_eq}
+use Rattle.ddl_service.specs.Printed.{is_regular}
+
+-- a user's name: a regular one of at most 128 bytes that isn't kept for something else
+unfoldable pub is_user_name : List ℕ → Bool
+is_user_name name = is_regular name && nat_le (length name) 128 && not (bytes_eq (codes "PUBLIC") name) && not (bytes_eq (codes "NONE") name)
+    && not (bytes_eq (codes "INFORMATION_SCHEMA") name) && not (bytes_eq (codes "DEFINITION_SCHEMA") name)
+
+-- 1 to 1,000 users' names, no two of them equal
+pub record AreUsers (users : List (List ℕ)) : Type 0 where
+  pub some : 1 ≤ length users
+  pub few : length users ≤ 1000
+  pub each : All (λ user. IsTrue (is_user_name user)) users
+  pub differ : AllPairs (λ a b. a ≢ b) users
+
+-- these users may have a further one of this name
+pub record MayFollow (users : List (List ℕ)) (name : List ℕ) : Type 0 where
+  pub is_name : IsTrue (is_user_name name)
+  pub is_new : ¬ (Contains users name)
+  pub has_room : length users < 1000
+
+-- a list is these users with commas between them
+pub record Lists (list : List ℕ) (users : List (List ℕ)) : Type 0 where
+  pub joined : list ≡ join_with_byte 44 users
+  pub are_users : AreUsers users
+
+-- the words are `script`, `--users` and a list of these users
+abbrev pub Names : List (List ℕ) → List (List ℕ) → Type 0
+Names (command ∷ option ∷ list ∷ []) users = (command ≡ codes "script") × (option ≡ codes "--users") × Lists list users
+Names words users = ⊥

@@ -1,0 +1,5 @@
+pub mod Feeding
+pub mod Literals
+pub mod Streams
+pub mod TokenCases
+pub mod WordsSoFar
