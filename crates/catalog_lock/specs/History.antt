@@ -1,0 +1,16 @@
+-- Histories of a machine that sessions share.
+use Rattle.std.specs.Prelude.{◌≡◌, ◌==◌, ℕ, Bool, true, List, ◌∷◌, ◌++◌, filter}
+use Rattle.catalog_lock.specs.declared.history.Event.{Event}
+
+abbrev pub event : ℕ → List ℕ → Event
+event session text = record { session = session; text = text }
+
+-- the events of one session, in order
+abbrev pub calls_by : ℕ → List Event → List Event
+calls_by number log = filter (λ e. e.session == number) log
+
+module _ {G R : Type 0} (takes : G → List ℕ → Type 0) (step : G → List Event → ℕ → List ℕ → R) (keeps : R → Bool) where
+  -- each text is one that the machine takes, and the reply of the step to it, at its place, is kept
+  abbrev pub IsLegal : G → List Event → Type 0
+  IsLegal made log = (before : List Event) (e : Event) (after : List Event) → log ≡ before ++ e ∷ after
+      → takes made e.text × (keeps (step made before e.session e.text) ≡ true)
