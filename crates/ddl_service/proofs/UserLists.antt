@@ -3,13 +3,12 @@ use Rattle.std.proofs.Common.{◌≡◌, ◌≢◌, ◌==◌, ◌||◌, true, fa
 use Rattle.std.specs.List.{AllPairs, join_with_byte, list_all, slice_split}
 use Rattle.std.proofs.lemmas.Bool.Decides.{nat_tests}
 use Rattle.std.proofs.lemmas.List.Splits.{join_with_byte-slice_split, length-slice_split, slice_split_at, slice_split_none}
-use Rattle.sql_words.specs.Words.{is_upper, is_digit}
-use Rattle.ddl_service.specs.Printed.{is_regular}
+use Rattle.std.specs.Char.{is_ascii_uppercase, is_ascii_digit}
 use Rattle.std.proofs.lemmas.List.{get_or-map, get_or-take, get_or_default, take_more}
 use Rattle.std.proofs.lemmas.List.Elements.{All-cons, All-nil, All-push}
 use Rattle.std.proofs.lemmas.List.Quantifiers.{all_pairs_push}
 use Rattle.sql_tree.specs.Names.{IsName}
-use Rattle.ddl_service.specs.Users.{AreUsers, Lists, MayFollow, is_user_name}
+use Rattle.ddl_service.specs.Users.{AreUsers, Lists, MayFollow, is_regular, is_regular_byte, is_user_name}
 use Rattle.ddl_service.proofs.UserNames.{left, right, name-of_user, regular_of}
 
 -- the first parts are users, no two of them equal
@@ -64,21 +63,21 @@ all-taken parts count users some reached so_far =
       },
     )
 
-plain-byte : (c : ℕ) → (is_upper c || is_digit c || (c == 95)) ≡ true → (c == 44) ≡ false
+plain-byte : (c : ℕ) → (is_regular_byte c) ≡ true → (c == 44) ≡ false
 plain-byte c h = grind (arith, nat_tests)
 
-first-plain : (c : ℕ) → is_upper c ≡ true → (c == 44) ≡ false
+first-plain : (c : ℕ) → is_ascii_uppercase c ≡ true → (c == 44) ≡ false
 first-plain c h = grind (arith, nat_tests)
 
-rest-plain : (cs : List ℕ) → list_all (λ d. is_upper d || is_digit d || (d == 95)) cs ≡ true → All (λ c. (c == 44) ≡ false) cs
+rest-plain : (cs : List ℕ) → list_all is_regular_byte cs ≡ true → All (λ c. (c == 44) ≡ false) cs
 rest-plain [] h = All-nil (λ c. (c == 44) ≡ false)
-rest-plain (c ∷ cs) h = All-cons (λ c. (c == 44) ≡ false) c cs (plain-byte c (left (is_upper c || is_digit c || (c == 95)) _ h)) (rest-plain cs (right (is_upper c || is_digit c || (c == 95)) _ h))
+rest-plain (c ∷ cs) h = All-cons (λ c. (c == 44) ≡ false) c cs (plain-byte c (left (is_regular_byte c) _ h)) (rest-plain cs (right (is_regular_byte c) _ h))
 
 -- a regular name has no comma
 regular-plain : (name : List ℕ) → is_regular name ≡ true → All (λ c. (c == 44) ≡ false) name
 unfolding is_regular
 regular-plain [] h = All-nil (λ c. (c == 44) ≡ false)
-regular-plain (c ∷ cs) h = All-cons (λ c. (c == 44) ≡ false) c cs (first-plain c (left (is_upper c) _ h)) (rest-plain cs (right (is_upper c) _ h))
+regular-plain (c ∷ cs) h = All-cons (λ c. (c == 44) ≡ false) c cs (first-plain c (left (is_ascii_uppercase c) _ h)) (rest-plain cs (right (is_ascii_uppercase c) _ h))
 
 -- names with commas between them are cut apart at the commas
 split-join : (names : List (List ℕ)) → 1 ≤ length names → All (λ name. All (λ c. (c == 44) ≡ false) name) names → slice_split (λ byte. byte == 44) (join_with_byte 44 names) ≡ names

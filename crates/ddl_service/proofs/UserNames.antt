@@ -4,9 +4,8 @@ use Rattle.std.specs.List.{list_all}
 use Rattle.std.proofs.lemmas.Bool.Decides.{nat_tests}
 use Rattle.std.proofs.lemmas.Str.{IsUtf8-from_ascii}
 use Rattle.sql_tree.specs.Names.{IsName}
-use Rattle.ddl_service.specs.Printed.{is_regular}
-use Rattle.sql_words.specs.Words.{is_upper, is_digit}
-use Rattle.ddl_service.specs.Users.{is_user_name}
+use Rattle.std.specs.Char.{is_ascii_uppercase, is_ascii_digit}
+use Rattle.ddl_service.specs.Users.{is_regular, is_regular_byte, is_user_name}
 
 pub left : (a b : Bool) → (a && b) ≡ true → a ≡ true
 left true b h = refl
@@ -16,22 +15,22 @@ pub right : (a b : Bool) → (a && b) ≡ true → b ≡ true
 right true b h = h
 right false b h = cc
 
-upper-small : (c : ℕ) → is_upper c ≡ true → c < 128
+upper-small : (c : ℕ) → is_ascii_uppercase c ≡ true → c < 128
 upper-small c h = grind (arith, nat_tests)
 
-regular-small : (c : ℕ) → (is_upper c || is_digit c || (c == 95)) ≡ true → c < 128
+regular-small : (c : ℕ) → (is_regular_byte c) ≡ true → c < 128
 regular-small c h = grind (arith, nat_tests)
 
-all-small : (cs : List ℕ) → list_all (λ d. is_upper d || is_digit d || (d == 95)) cs ≡ true → (i : ℕ) → slice_index cs i < 128
+all-small : (cs : List ℕ) → list_all is_regular_byte cs ≡ true → (i : ℕ) → slice_index cs i < 128
 all-small [] h zero = omega arith
 all-small [] h (suc i) = omega arith
-all-small (c ∷ cs) h zero = regular-small c (left (is_upper c || is_digit c || (c == 95)) _ h)
-all-small (c ∷ cs) h (suc i) = all-small cs (right (is_upper c || is_digit c || (c == 95)) _ h) i
+all-small (c ∷ cs) h zero = regular-small c (left (is_regular_byte c) _ h)
+all-small (c ∷ cs) h (suc i) = all-small cs (right (is_regular_byte c) _ h) i
 
 regular-text : (name : List ℕ) → is_regular name ≡ true → IsUtf8 name
 unfolding is_regular
 regular-text [] h = cc
-regular-text (c ∷ cs) h = IsUtf8-from_ascii (c ∷ cs) (go c cs (upper-small c (left (is_upper c) _ h)) (all-small cs (right (is_upper c) _ h))) where
+regular-text (c ∷ cs) h = IsUtf8-from_ascii (c ∷ cs) (go c cs (upper-small c (left (is_ascii_uppercase c) _ h)) (all-small cs (right (is_ascii_uppercase c) _ h))) where
   go : (c : ℕ) (cs : List ℕ) → c < 128 → ((i : ℕ) → slice_index cs i < 128) → (i : ℕ) → slice_index (c ∷ cs) i < 128
   go c cs first rest zero = first
   go c cs first rest (suc i) = rest i

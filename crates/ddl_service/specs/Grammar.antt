@@ -1,22 +1,13 @@
 -- The grammar: which words are which statement.
-use Rattle.std.specs.Prelude.{◌≡◌, Bool, not, ◌&&◌, IsTrue, ℕ, List, [], ◌∷◌, codes, Ok, map}
-use Rattle.std.specs.List.{list_any}
+use Rattle.std.specs.Prelude.{◌≡◌, Bool, not, ◌&&◌, IsTrue, ℕ, List, [], ◌∷◌, codes, Ok}
 use Rattle.std.specs.Str.{bytes_eq}
 use Rattle.sql_tree.specs.Names.{IsName}
-use Rattle.sql_tree.specs.declared.statement.Statement.{Statement}
-use Rattle.sql_tree.specs.declared.statement.Statement.TheVariants.{Connect, CreateSchema}
+use Rattle.sql_tree.specs.Reserved.{is_reserved}
+use Rattle.ddl_service.specs.declared.statement.Statement.{Statement}
+use Rattle.ddl_service.specs.declared.statement.Statement.TheVariants.{Connect, CreateSchema}
 use Rattle.sql_words.specs.Words.{words_of}
 use Rattle.sql_words.specs.declared.word.Word.{Word}
 use Rattle.sql_words.specs.declared.word.Word.TheVariants.{Plain, Literal}
-use Rattle.sql_words.specs.declared.word.TheConstants.{RESERVED}
-
--- one of these words has these bytes
-unfoldable pub is_among : List (List ℕ) → List ℕ → Bool
-is_among words bytes = list_any (λ word. bytes_eq word bytes) words
-
--- a word that is no name where it is plain
-unfoldable pub is_reserved : List ℕ → Bool
-is_reserved word = is_among (map (λ w. w.now) RESERVED) word
 
 -- a plain word may name a schema
 unfoldable pub may_name_schema : List ℕ → Bool

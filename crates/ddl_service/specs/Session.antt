@@ -4,8 +4,8 @@ use Rattle.std.specs.List.{list_any, list_all}
 use Rattle.std.specs.Ordering.{nat_cmp, is_lt}
 use Rattle.std.specs.Cmp.Lexicographic.{slice_cmp}
 use Rattle.std.specs.Str.{bytes_eq}
-use Rattle.sql_tree.specs.declared.statement.Statement.{Statement}
-use Rattle.sql_tree.specs.declared.statement.Statement.TheVariants.{Connect, CreateSchema}
+use Rattle.ddl_service.specs.declared.statement.Statement.{Statement}
+use Rattle.ddl_service.specs.declared.statement.Statement.TheVariants.{Connect, CreateSchema}
 use Rattle.ddl_service.specs.Grammar.{Reads}
 use Rattle.ddl_service.specs.declared.item.Item.{Item}
 use Rattle.ddl_service.specs.declared.item.Item.TheVariants.{User, Schema}

@@ -1,8 +1,17 @@
 -- The users that the words of the command line name.
-use Rattle.std.specs.Prelude.{◌≡◌, ◌≢◌, ◌≤◌, Bool, IsTrue, not, ◌&&◌, nat_le, ℕ, List, [], ◌∷◌, length, codes, All, Contains, ◌<◌}
-use Rattle.std.specs.List.{AllPairs, join_with_byte}
+use Rattle.std.specs.Prelude.{◌≡◌, ◌≢◌, ◌≤◌, ◌==◌, Bool, false, IsTrue, not, ◌&&◌, ◌||◌, nat_le, ℕ, List, [], ◌∷◌, length, codes, All, Contains, ◌<◌}
+use Rattle.std.specs.Char.{is_ascii_uppercase, is_ascii_digit}
+use Rattle.std.specs.List.{AllPairs, join_with_byte, list_all}
 use Rattle.std.specs.Str.{bytes_eq}
-use Rattle.ddl_service.specs.Printed.{is_regular}
+
+-- an upper-case letter, a digit or an underscore
+abbrev pub is_regular_byte : ℕ → Bool
+is_regular_byte c = is_ascii_uppercase c || is_ascii_digit c || (c == 95)
+
+-- an upper-case letter, and then upper-case letters, digits and underscores
+unfoldable pub is_regular : List ℕ → Bool
+is_regular [] = false
+is_regular (c ∷ cs) = is_ascii_uppercase c && list_all is_regular_byte cs
 
 -- a user's name: a regular one of at most 128 bytes that isn't kept for something else
 unfoldable pub is_user_name : List ℕ → Bool

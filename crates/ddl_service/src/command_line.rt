@@ -6,7 +6,7 @@ ghost use Rattle.ddl_service.specs.Users.{AreUsers, Lists, MayFollow, Names};
 ghost use Rattle.sql_tree.specs.Names.{IsName};
 
 use crate::parse::is_word;
-use crate::print::is_regular;
+use crate::regular::is_regular;
 use sql_tree::Name;
 use std::alloc::{AllocError, Global};
 

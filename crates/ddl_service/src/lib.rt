@@ -6,9 +6,11 @@ mod command_line;
 mod item;
 mod parse;
 mod print;
+mod regular;
 mod reply;
 mod script;
 mod start;
+mod statement;
 
 pub use book::Book;
 pub use print::write_reply;

@@ -1,41 +1,14 @@
-ghost use Rattle.std.specs.Prelude.{◌≡◌, ◌↔◌, IfOk, IsTrue, MatchOption, map};
+ghost use Rattle.std.specs.Prelude.{◌≡◌, ◌↔◌, IfOk, IsTrue, MatchOption};
 ghost use Rattle.sql_tree.specs.Names.{IsName};
 ghost use Rattle.std.specs.Str.{bytes_eq};
-ghost use Rattle.std.specs.List.{list_any};
 ghost use Rattle.ddl_service.specs.Grammar.{Grammar, Reads};
 ghost use Rattle.ddl_service.specs.Grammar as grammar;
-ghost use Rattle.sql_tree.specs.declared.statement.Statement.{Statement};
+ghost use Rattle.ddl_service.specs.declared.statement.Statement.{Statement};
 
-use sql_tree::{Name, Statement};
-use sql_words::{RESERVED, Word, WordsError, words};
+use crate::statement::Statement;
+use sql_tree::{Name, is_reserved};
+use sql_words::{Word, WordsError, words};
 use std::alloc::{AllocError, Global};
-
-/// Whether a plain word is no name.
-#[tactic(auto, unfolding(crate::specs::Grammar::is_reserved))]
-pub fn is_reserved(name: &[u8]) -> bool
-    ensures { result ≡ grammar.is_reserved name.now }
-{
-    is_among(&RESERVED, name)
-}
-
-// Whether one of these words has these bytes.
-fn is_among(words: &[&[u8]], bytes: &[u8]) -> bool
-    ensures { result ≡ grammar.is_among (map (λ w. w.now) words.now) bytes.now }
-{
-    any_same(words, bytes)
-}
-
-fn any_same(words: &[&[u8]], bytes: &[u8]) -> bool
-    ensures { result ≡ list_any (λ word. bytes_eq word.now bytes.now) words.now }
-{
-    words.iter().any(|word| is_same(word, bytes))
-}
-
-pub fn is_same(word: &[u8], bytes: &[u8]) -> bool
-    ensures { result ≡ bytes_eq word.now bytes.now }
-{
-    word == bytes
-}
 
 // Whether these are the bytes of a word.
 pub fn is_word(bytes: &[u8], word: &str) -> bool

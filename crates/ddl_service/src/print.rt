@@ -1,40 +1,24 @@
-ghost use Rattle.std.specs.Prelude.{◌≡◌, ◌||◌, ◌==◌, [], ◌∷◌, ◌++◌, codes};
-ghost use Rattle.sql_words.specs.Words.{is_upper, is_digit};
-ghost use Rattle.std.specs.List.{list_all};
+ghost use Rattle.std.specs.Prelude.{◌≡◌, [], ◌∷◌, ◌++◌, codes};
+ghost use Rattle.sql_tree.specs.Texts as texts;
 ghost use Rattle.svc_io.specs.Bytes.{Puts};
 ghost use Rattle.svc_io.specs.Faults.{HasCause};
 ghost use Rattle.ddl_service.specs.Printed as printed;
 
-use crate::parse::is_reserved;
+use crate::regular::are_regular;
 use crate::reply::{Refusal, Reply};
+use sql_tree::is_reserved;
 use svc_io::{Failed, Sink, put_all};
 
-fn is_regular_byte(byte: u8) -> bool
-    ensures { result ≡ (is_upper byte || is_digit byte || (byte == 95)) }
-{
-    matches!(byte, b'A'..=b'Z' | b'0'..=b'9' | b'_')
-}
-
-fn is_upper_letter(byte: u8) -> bool
-    ensures { result ≡ is_upper byte }
-{
-    matches!(byte, b'A'..=b'Z')
-}
-
-fn are_regular(bytes: &[u8]) -> bool
-    ensures { result ≡ list_all (λ d. is_upper d || is_digit d || (d == 95)) bytes.now }
-{
-    bytes.iter().all(|byte| is_regular_byte(*byte))
-}
-
-/// Whether a name is an upper-case letter, and then upper-case letters, digits and underscores.
-#[tactic(auto, unfolding(crate::specs::Printed::is_regular))]
-pub fn is_regular(name: &[u8]) -> bool
-    ensures { result ≡ printed.is_regular name.now }
+// Whether a name stands without quotes.
+#[tactic(auto, unfolding(sql_tree::specs::Texts::is_bare))]
+fn is_bare(name: &[u8]) -> bool
+    ensures { result ≡ texts.is_bare name.now }
 {
     match name {
         [] => false,
-        [first, rest @ ..] => is_upper_letter(*first) && are_regular(rest),
+        [first, rest @ ..] => {
+            first.is_ascii_uppercase() && are_regular(rest) && !is_reserved(name)
+        }
     }
 }
 
@@ -51,7 +35,7 @@ fn put_doubled<W: Sink>(sink: &mut W, byte: u8) -> Result<(), Failed>
 }
 
 fn write_quoted<W: Sink>(sink: &mut W, name: &[u8]) -> Result<(), Failed>
-    ensures bytes { Puts (W.given sink.old) (printed.quoted name.now) (W.given sink.new) result }
+    ensures bytes { Puts (W.given sink.old) (texts.quoted 34 name.now) (W.given sink.new) result }
     ensures cause { HasCause (W.faults sink.old) (W.faults sink.new) result }
     ensures beside { W.beside sink.new ≡ W.beside sink.old }
 {
@@ -66,13 +50,13 @@ fn write_quoted<W: Sink>(sink: &mut W, name: &[u8]) -> Result<(), Failed>
     put_all(sink, b"\"")
 }
 
-#[tactic(auto, unfolding(crate::specs::Printed::name_text))]
+#[tactic(auto, unfolding(sql_tree::specs::Texts::name_text))]
 fn write_name<W: Sink>(sink: &mut W, name: &[u8]) -> Result<(), Failed>
-    ensures bytes { Puts (W.given sink.old) (printed.name_text name.now) (W.given sink.new) result }
+    ensures bytes { Puts (W.given sink.old) (texts.name_text name.now) (W.given sink.new) result }
     ensures cause { HasCause (W.faults sink.old) (W.faults sink.new) result }
     ensures beside { W.beside sink.new ≡ W.beside sink.old }
 {
-    if is_regular(name) && !is_reserved(name) {
+    if is_bare(name) {
         put_all(sink, name)
     } else {
         write_quoted(sink, name)
@@ -80,7 +64,7 @@ fn write_name<W: Sink>(sink: &mut W, name: &[u8]) -> Result<(), Failed>
 }
 
 fn write_taken<W: Sink>(sink: &mut W, name: &[u8]) -> Result<(), Failed>
-    ensures bytes { Puts (W.given sink.old) (codes "ERR 10 42000 " ++ (printed.name_text name.now ++ 10 ∷ [])) (W.given sink.new) result }
+    ensures bytes { Puts (W.given sink.old) (codes "ERR 10 42000 " ++ (texts.name_text name.now ++ 10 ∷ [])) (W.given sink.new) result }
     ensures cause { HasCause (W.faults sink.old) (W.faults sink.new) result }
     ensures beside { W.beside sink.new ≡ W.beside sink.old }
 {

@@ -1,36 +1,46 @@
 -- A splitter takes a byte more.
-use Rattle.std.proofs.Common.{◌≡◌, ◌<◌, ◌==◌, ◌&&◌, not, true, false, List, [], ◌∷◌, ◌++◌, ℕ, ◌+◌, length, take, get_or, sym, ap, ◌∙◌, append_assoc, Bool}
-use Rattle.std.proofs.lemmas.List.{take_more}
-use Rattle.sql_words.specs.Stream.{texts_from, rest_from, is_open, literal_after, ends, Fits}
-use Rattle.sql_words.proofs.Streams.{texts_from-more, texts_from-end, rest_from-end, rest_from-none, is_open-more, Fits-more}
+use Rattle.std.proofs.Common.{◌≡◌, ◌<◌, ◌≤◌, Bool, true, false, List, [], ◌∷◌, ◌++◌, ℕ, ◌+◌, ◌^◌, length, take, get_or, sym, ap, ◌∙◌, append_assoc, length-append, arith}
+use Rattle.std.proofs.lemmas.List.{take_more, length-take}
+use Rattle.sql_words.specs.Scanning.{scan_of, scan_after, ends_scan}
+use Rattle.sql_words.specs.Stream.{texts_from, rest_from, ends, Fits}
+use Rattle.sql_words.specs.declared.scan.Scan.{Scan}
+use Rattle.sql_words.proofs.Scans.{scan_of-more, level-le}
+use Rattle.sql_words.proofs.Streams.{texts_from-more, texts_from-end, rest_from-end, rest_from-none, Fits-more}
 
--- whether the byte ends a text, by what the splitter keeps
-ends-is : (held piece buffer : List ℕ) (i c : ℕ) (inside : Bool) (b : Bool) → buffer ≡ held ++ take i piece → inside ≡ is_open buffer → (b ≡ ((c == 59) && not inside)) → ends (held ++ take i piece) c ≡ b
-ends-is held piece buffer i c inside b is keeps told = sym (told ∙ ap (λ open'. (c == 59) && not open') (keeps ∙ ap is_open is))
+-- a place of a piece behind what is held, and the scan there
+pub record Stands (held piece : List ℕ) (i : ℕ) (scan : Scan) : Type 0 where
+  pub within : i < length piece
+  pub none : texts_from held (take i piece) ≡ []
+  pub fits : Fits held (take i piece)
+  pub scanned : scan ≡ scan_of (held ++ take i piece)
+  pub room : length held + i < 65536
 
-pub texts-end : (held piece buffer : List ℕ) (i : ℕ) (inside : Bool) → i < length piece → texts_from held (take i piece) ≡ [] → buffer ≡ held ++ take i piece → inside ≡ is_open buffer
-    → (true ≡ ((get_or piece i 0 == 59) && not inside)) → texts_from held (take (i + 1) piece) ≡ buffer ∷ []
-texts-end held piece buffer i inside within none is keeps told =
-    rw (take_more piece i 0 within) (texts_from-end held (take i piece) (get_or piece i 0) none (ends-is held piece buffer i (get_or piece i 0) inside true is keeps told)
-    ∙ ap (λ text. text ∷ []) (sym is))
+level-held : (held piece : List ℕ) (i : ℕ) → (scan_of (held ++ take i piece)).level ≤ length held + i
+level-held held piece i = omega (arith, level-le (held ++ take i piece), length-append held (take i piece), length-take i piece)
 
-pub rest-end : (held piece buffer : List ℕ) (i : ℕ) (inside : Bool) → i < length piece → texts_from held (take i piece) ≡ [] → buffer ≡ held ++ take i piece → inside ≡ is_open buffer
-    → (true ≡ ((get_or piece i 0 == 59) && not inside)) → rest_from held (take (i + 1) piece) ≡ []
-rest-end held piece buffer i inside within none is keeps told =
-    rw (take_more piece i 0 within) (rest_from-end held (take i piece) (get_or piece i 0) none (ends-is held piece buffer i (get_or piece i 0) inside true is keeps told))
+-- the level is low
+pub level-low : (held piece : List ℕ) (i : ℕ) (scan : Scan) → scan ≡ scan_of (held ++ take i piece) → length held + i ≤ 65536 → scan.level < 2 ^ 63
+level-low held piece i scan is few = rw is (omega (arith, level-held held piece i))
 
-pub texts-more : (held piece buffer : List ℕ) (i : ℕ) (inside : Bool) → i < length piece → texts_from held (take i piece) ≡ [] → buffer ≡ held ++ take i piece → inside ≡ is_open buffer
-    → (false ≡ ((get_or piece i 0 == 59) && not inside)) → texts_from held (take (i + 1) piece) ≡ []
-texts-more held piece buffer i inside within none is keeps told =
-    rw (take_more piece i 0 within) (texts_from-more held (take i piece) (get_or piece i 0) none (ends-is held piece buffer i (get_or piece i 0) inside false is keeps told))
+ends-is : (held piece : List ℕ) (i : ℕ) (scan : Scan) (b : Bool) → Stands held piece i scan → b ≡ ends_scan scan (get_or piece i 0) → ends (held ++ take i piece) (get_or piece i 0) ≡ b
+ends-is held piece i scan b at told = sym (told ∙ ap (λ s. ends_scan s (get_or piece i 0)) at.scanned)
 
-pub held-more : (held piece buffer new : List ℕ) (i : ℕ) → i < length piece → buffer ≡ held ++ take i piece → new ≡ buffer ++ get_or piece i 0 ∷ [] → new ≡ held ++ take (i + 1) piece
-held-more held piece buffer new i within is pushed = rw (take_more piece i 0 within) (pushed ∙ (ap (λ b. b ++ get_or piece i 0 ∷ []) is ∙ append_assoc held (take i piece) (get_or piece i 0 ∷ [])))
+pub texts-end : (held piece : List ℕ) (i : ℕ) (scan : Scan) → Stands held piece i scan → true ≡ ends_scan scan (get_or piece i 0) → texts_from held (take (i + 1) piece) ≡ (held ++ take i piece) ∷ []
+texts-end held piece i scan at told = rw (take_more piece i 0 at.within) (texts_from-end held (take i piece) (get_or piece i 0) at.none (ends-is held piece i scan true at told))
 
-pub inside-more : (buffer new : List ℕ) (c : ℕ) (inside after : Bool) → new ≡ buffer ++ c ∷ [] → inside ≡ is_open buffer → after ≡ literal_after inside c → after ≡ is_open new
-inside-more buffer new c inside after pushed keeps told = told ∙ (ap (λ o. literal_after o c) keeps ∙ (sym (is_open-more buffer c) ∙ ap is_open (sym pushed)))
+pub rest-end : (held piece : List ℕ) (i : ℕ) (scan : Scan) → Stands held piece i scan → true ≡ ends_scan scan (get_or piece i 0) → rest_from held (take (i + 1) piece) ≡ []
+rest-end held piece i scan at told = rw (take_more piece i 0 at.within) (rest_from-end held (take i piece) (get_or piece i 0) at.none (ends-is held piece i scan true at told))
 
-pub fits-more : (held piece buffer : List ℕ) (i : ℕ) → i < length piece → texts_from held (take i piece) ≡ [] → buffer ≡ held ++ take i piece
-    → Fits held (take i piece) → length buffer < 65536 → Fits held (take (i + 1) piece)
-fits-more held piece buffer i within none is fits room = rw (take_more piece i 0 within)
-    (Fits-more held (take i piece) (get_or piece i 0) fits (rw (rest_from-none held (take i piece) none, ← is) room))
+pub texts-more : (held piece : List ℕ) (i : ℕ) (scan : Scan) → Stands held piece i scan → false ≡ ends_scan scan (get_or piece i 0) → texts_from held (take (i + 1) piece) ≡ []
+texts-more held piece i scan at told = rw (take_more piece i 0 at.within) (texts_from-more held (take i piece) (get_or piece i 0) at.none (ends-is held piece i scan false at told))
+
+pub scan-more : (held piece : List ℕ) (i : ℕ) (scan new : Scan) → Stands held piece i scan → new ≡ scan_after scan (get_or piece i 0) → new ≡ scan_of (held ++ take (i + 1) piece)
+scan-more held piece i scan new at told = rw (take_more piece i 0 at.within, ← append_assoc held (take i piece) (get_or piece i 0 ∷ []))
+    (told ∙ (ap (λ s. scan_after s (get_or piece i 0)) at.scanned ∙ sym (scan_of-more (held ++ take i piece) (get_or piece i 0))))
+
+held-few : (held piece : List ℕ) (i : ℕ) → length held + i < 65536 → length (held ++ take i piece) < 65536
+held-few held piece i room = omega (arith, length-append held (take i piece), length-take i piece)
+
+pub fits-more : (held piece : List ℕ) (i : ℕ) (scan : Scan) → Stands held piece i scan → Fits held (take (i + 1) piece)
+fits-more held piece i scan at = rw (take_more piece i 0 at.within)
+    (Fits-more held (take i piece) (get_or piece i 0) at.fits (rw (rest_from-none held (take i piece) at.none) (held-few held piece i at.room)))

@@ -1,7 +1,7 @@
 -- A stream that comes in pieces has the same texts and the same rest.
 use Rattle.std.proofs.Common.{◌≡◌, true, false, if◌then◌else◌, ℕ, List, [], ◌∷◌, ◌++◌, refl, ap, sym, ◌∙◌, append_assoc, append-nil, length, ◌<◌}
 use Rattle.std.proofs.lemmas.Grind.{fold-append}
-use Rattle.sql_words.specs.Stream.{ends, is_open, literal_after, texts_from, rest_from, Fits}
+use Rattle.sql_words.specs.Stream.{ends, texts_from, rest_from, Fits}
 
 pub texts_from-append : (held b more : List ℕ) → texts_from held (b ++ more) ≡ texts_from held b ++ texts_from (rest_from held b) more
 texts_from-append held [] more = refl
@@ -33,9 +33,6 @@ texts_from-end held b c none ended = rw (texts_from-append held b (c ∷ []), no
 
 pub rest_from-end : (held b : List ℕ) (c : ℕ) → texts_from held b ≡ [] → ends (held ++ b) c ≡ true → rest_from held (b ++ c ∷ []) ≡ []
 rest_from-end held b c none ended = rw (rest_from-append held b (c ∷ []), rest_from-none held b none, ended) refl
-
-pub is_open-more : (held : List ℕ) (c : ℕ) → is_open (held ++ c ∷ []) ≡ literal_after (is_open held) c
-is_open-more held c = fold-append literal_after false held (c ∷ [])
 
 -- where texts end, what is held goes on from the rest
 pub Fits-append : (held b more : List ℕ) → Fits held b → Fits (rest_from held b) more → Fits held (b ++ more)

@@ -1,6 +1,13 @@
-pub mod Failing
+pub mod Division
+pub mod Scanning
+pub mod Stream
+pub mod StreamLaws
 pub mod Split
 pub mod Splitting
-pub mod Stream
-pub mod Tokens
 pub mod Words
+pub mod Tokens
+pub mod Failing
+pub mod Keywords
+pub mod Kinds
+pub mod KeywordLaws
+pub mod Sections

@@ -1,33 +1,23 @@
-//! The texts of a stream, and the words of a text.
+//! The texts of statements in a stream of SQL, and the words of a text.
 #![tactic(auto)]
 
+mod keywords;
+mod kind;
+mod laws;
 mod reading;
+mod scan;
 mod splitter;
 mod tokens;
 mod word;
 
+pub use kind::{Kind, is_name, is_reserved, kind_of, same_kind, text_of};
+pub use laws::{
+    each_stream_has_one_division, pieces_compose, reserved_words_are_no_names,
+    texts_are_those_of_the_parts,
+};
 pub use reading::{WordsError, words};
-pub use splitter::{Fed, Splitter};
-pub use word::{RESERVED, Word};
+pub use splitter::{Fed, MOST_BYTES, Splitter};
+pub use word::{Symbol, Word};
 
 #[cfg(test)]
-mod tests {
-    use super::*;
-    use std::test::Fail;
-
-    #[test]
-    fn a_statement_ends_in_a_piece(rt: HostRuntime) -> Result<(), Fail> {
-        let mut splitter = Splitter::new(rt.alloc())?;
-        assert_eq!(rt; splitter.feed(b"A;B"), Fed::Statement { used: 2 });
-        assert_eq!(rt; splitter.feed(b"B"), Fed::NeedMore);
-        Ok(())
-    }
-
-    #[test]
-    fn a_semicolon_in_a_literal_ends_nothing(rt: HostRuntime) -> Result<(), Fail> {
-        let mut splitter = Splitter::new(rt.alloc())?;
-        assert_eq!(rt; splitter.feed(b"TO 'D;"), Fed::NeedMore);
-        assert_eq!(rt; splitter.feed(b"X' ;"), Fed::Statement { used: 4 });
-        Ok(())
-    }
-}
+mod tests;

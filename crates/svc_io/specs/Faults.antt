@@ -19,6 +19,9 @@ pub record Beside : Type 0 where
   pub told : Option (List ℕ)
   pub count : ℕ
 
+abbrev pub beside_of : Option (List ℕ) → ℕ → Beside
+beside_of told count = record { told = told; count = count }
+
 -- an object that is a source alone, or a sink alone, has nothing beside it
 abbrev pub nothing_beside : Beside
-nothing_beside = record { told = None; count = 0 }
+nothing_beside = beside_of None 0

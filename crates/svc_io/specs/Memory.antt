@@ -1,24 +1,25 @@
--- What contracts see of a source and a sink in memory.
-use Rattle.std.specs.Prelude.{◌≡◌, ◌≤◌, ◌<◌, ℕ, List, [], ◌∷◌, ◌++◌, ◌⊎◌, length, drop, flat_map, Contains}
+-- What contracts see of a source, a sink and a connection in memory.
+use Rattle.std.specs.Prelude.{◌≡◌, ◌≤◌, ◌<◌, ◌-◌, ◌↔◌, ◌⊎◌, ℕ, min, List, [], ◌∷◌, ◌++◌, length, take, drop, flat_map, Option, Some, Result, IsErr, IfOk, OnErr}
 use Rattle.std.specs.declared.vec.Vec.{Vec}
 use Rattle.std.specs.declared.alloc.Global.{Global}
-use Rattle.svc_io.specs.Faults.{raised}
+use Rattle.svc_io.specs.Calls.{CallsState, NextFails, made_one, failed_one}
 
--- a source: the pieces that are left, each with at least one byte, the numbers of the calls that fail, counted from 1, and how many calls were made and have failed
+-- a source: the pieces that are left, each with at least one byte, and the calls of `take`
 pub record SourceState : Type 0 where
   pub pieces : List (List ℕ)
-  pub failing : List ℕ
-  pub calls : ℕ
-  pub faults : ℕ
+  pub calls : CallsState
 
--- a sink: the bytes that it was given, how many it takes at a call and in all, and the same
+-- a sink: the bytes that it was given, how many it takes at a call and in all, and the calls of `put`
 pub record SinkState : Type 0 where
   pub given : List ℕ
   pub most : ℕ
   pub room : ℕ
-  pub failing : List ℕ
-  pub calls : ℕ
-  pub faults : ℕ
+  pub calls : CallsState
+
+-- a connection: its source and its sink
+pub record ConnState : Type 0 where
+  pub source : SourceState
+  pub sink : SinkState
 
 -- a piece before others, where it has bytes
 abbrev pub put_before : List ℕ → List (List ℕ) → List (List ℕ)
@@ -39,6 +40,13 @@ with_bytes_from offset (piece ∷ pieces) = put_before (drop offset piece.items)
 abbrev pub joined : List (List ℕ) → List ℕ
 joined pieces = flat_map (λ piece. piece) pieces
 
+-- the bytes that a source tells as left, and that a sink tells as given
+abbrev pub bytes_left : SourceState → Option (List ℕ)
+bytes_left source = Some (joined source.pieces)
+
+abbrev pub bytes_given : SinkState → Option (List ℕ)
+bytes_given sink = Some sink.given
+
 -- the piece of which the next call gives
 abbrev pub first_piece : List (List ℕ) → List ℕ
 first_piece [] = []
@@ -49,24 +57,30 @@ abbrev pub after_front : ℕ → List (List ℕ) → List (List ℕ)
 after_front count [] = []
 after_front count (piece ∷ pieces) = put_before (drop count piece) pieces
 
--- the source after a call that gave so many bytes, and after one that failed
+-- the source after a call that gave so many bytes
 abbrev pub source_gave : ℕ → SourceState → SourceState
-source_gave count source = record source { pieces = after_front count source.pieces; calls = raised source.calls }
+source_gave count source = record source { pieces = after_front count source.pieces; calls = made_one source.calls }
 
-abbrev pub source_failed : SourceState → SourceState
-source_failed source = record source { calls = raised source.calls; faults = raised source.faults }
+-- a call of this source, with this room to put bytes into: it fails exactly where it is listed, and else gives the front of the first piece, as much as there is room for
+pub record TakesFront {E : Type 0} (source : SourceState) (into filled : List ℕ) (after : SourceState) (result : Result ℕ E) : Type 0 where
+  pub fails : IsErr result ↔ NextFails source.calls
+  pub count : IfOk result (λ count. count ≡ min (length (first_piece source.pieces)) (length into))
+  pub front : IfOk result (λ count. filled ≡ take count (first_piece source.pieces) ++ drop count into)
+  pub gave : IfOk result (λ count. after ≡ source_gave count source)
+  pub failed : OnErr result (after ≡ record source { calls = failed_one source.calls })
+  pub kept : OnErr result (filled ≡ into)
 
--- the next call of this source is listed as one that fails
-abbrev pub SourceFails : SourceState → Type 0
-SourceFails source = Contains source.failing (raised source.calls)
+-- there is a byte to take, and no room is left for it
+abbrev pub IsFull : SinkState → List ℕ → Type 0
+IsFull sink piece = (0 < length piece) × (sink.room ≤ length sink.given)
 
--- the sink after a call that took these bytes, and after one that failed
+-- the sink after a call that took these bytes
 abbrev pub sink_got : List ℕ → SinkState → SinkState
-sink_got bytes sink = record sink { given = sink.given ++ bytes; calls = raised sink.calls }
+sink_got bytes sink = record sink { given = sink.given ++ bytes; calls = made_one sink.calls }
 
-abbrev pub sink_failed : SinkState → SinkState
-sink_failed sink = record sink { calls = raised sink.calls; faults = raised sink.faults }
-
--- the next call of this sink is listed as one that fails, or there is a byte to take and no room is left
-abbrev pub SinkFails : SinkState → List ℕ → Type 0
-SinkFails sink piece = Contains sink.failing (raised sink.calls) ⊎ ((0 < length piece) × (sink.room ≤ length sink.given))
+-- a call of this sink, with this piece: it fails exactly where it is listed or no room is left, and else takes the front of the piece, as much as it takes at a call and has room for
+pub record PutsFront {E : Type 0} (sink : SinkState) (piece : List ℕ) (after : SinkState) (result : Result ℕ E) : Type 0 where
+  pub fails : IsErr result ↔ (NextFails sink.calls ⊎ IsFull sink piece)
+  pub count : IfOk result (λ count. count ≡ min (min (length piece) sink.most) (sink.room - length sink.given))
+  pub got : IfOk result (λ count. after ≡ sink_got (take count piece) sink)
+  pub failed : OnErr result (after ≡ record sink { calls = failed_one sink.calls })

@@ -1,18 +1,13 @@
-ghost use Rattle.std.specs.Prelude.{◌≡◌, ◌≤◌, ◌<◌, ◌+◌, ◌-◌, ◌++◌, ◌↔◌, [], List, ℕ, Option, Some, None, IsTrue, IsErr, IfOk, OnOk, OnErr, Contains, length, min, take, drop, flat_map, vec_len, vec_capacity};
+ghost use Rattle.std.specs.Prelude.{◌≡◌, ◌≤◌, ◌<◌, ◌+◌, ◌++◌, ◌↔◌, [], IsTrue, IfOk, OnOk, OnErr, Contains, length, min, take, drop, flat_map, vec_len, vec_capacity};
 ghost use Rattle.svc_io.specs.Bytes.{Gave, Got, IsEmpty};
+ghost use Rattle.svc_io.specs.Calls.{first_calls};
 ghost use Rattle.svc_io.specs.Faults.{HasCause, nothing_beside};
-ghost use Rattle.svc_io.specs.Memory.{SourceFails, SinkFails, joined, first_piece, source_gave, source_failed, sink_got, sink_failed, with_bytes};
+ghost use Rattle.svc_io.specs.Memory.{TakesFront, PutsFront, bytes_left, bytes_given, joined, with_bytes};
 
+use crate::calls::Calls;
 use crate::{Failed, Sink, Source};
 use std::alloc::{AllocError, Global};
 use std::marker::Model;
-
-// Whether a number is among those that are listed.
-fn is_listed(listed: &[u64], number: u64) -> bool
-    ensures { IsTrue result ↔ Contains listed.now number }
-{
-    listed.contains(&number)
-}
 
 // Copies as many bytes as both have, and answers how many.
 fn copy_front(from: &[u8], into: &mut [u8]) -> usize
@@ -44,9 +39,7 @@ pub struct MemSource {
     pieces: Vec<Vec<u8>>,
     piece: usize,
     offset: usize,
-    failing: Vec<u64>,
-    calls: u64,
-    faults: u64,
+    calls: Calls,
 }
 
 impl Model for MemSource {
@@ -57,9 +50,7 @@ impl Model for MemSource {
 
     ghost view = { λ s. record {
       pieces = with_bytes_from s.offset (drop s.piece s.pieces.items);
-      failing = s.failing.items;
       calls = s.calls;
-      faults = s.faults;
     } };
 }
 
@@ -68,48 +59,37 @@ impl MemSource {
     pub fn new(pieces: Vec<Vec<u8>>, failing: Vec<u64>) -> MemSource
         ensures pieces { result.pieces ≡ with_bytes pieces.items }
         ensures bytes { joined result.pieces ≡ flat_map (λ piece. piece.items) pieces.items }
-        ensures failing { result.failing ≡ failing.items }
-        ensures calls { result.calls ≡ 0 }
-        ensures faults { result.faults ≡ 0 }
+        ensures calls { result.calls ≡ first_calls failing.items }
     {
         MemSource {
             pieces,
             piece: 0,
             offset: 0,
-            failing,
-            calls: 0,
-            faults: 0,
+            calls: Calls::new(failing),
         }
     }
 }
 
 impl Source for MemSource {
-    ghost left = { λ s. Some (joined s.pieces) };
+    ghost left = { bytes_left };
 
-    ghost faults = { λ s. s.faults };
+    ghost faults = { λ s. s.calls.faults };
 
     ghost beside = { λ _. nothing_beside };
 
     fn take(&mut self, into: &mut [u8]) -> Result<usize, Failed>
-        ensures fails { IsErr result ↔ SourceFails self.old }
-        ensures count { IfOk result (λ count. count ≡ min (length (first_piece self.old.pieces)) (length into.old)) }
-        ensures front { IfOk result (λ count. into.new ≡ take count (first_piece self.old.pieces) ++ drop count into.old) }
-        ensures after { IfOk result (λ count. self.new ≡ source_gave count self.old) }
-        ensures failed { OnErr result (self.new ≡ source_failed self.old) }
-        ensures kept { OnErr result (into.new ≡ into.old) }
+        ensures takes { TakesFront self.old into.old into.new self.new result }
 
         ensures bound { IfOk result (λ count. count ≤ length into.new) }
-        ensures bytes { IfOk result (λ count. Gave (Some (joined self.old.pieces)) (take count into.new) (Some (joined self.new.pieces))) }
-        ensures end { IfOk result (λ count. count ≡ 0 → 0 < length into.new → IsEmpty (Some (joined self.new.pieces))) }
-        ensures err { OnErr result (joined self.new.pieces ≡ joined self.old.pieces) }
-        ensures cause { HasCause self.old.faults self.new.faults result }
-        ensures unfailed { OnOk result (self.new.faults ≡ self.old.faults) }
+        ensures bytes { IfOk result (λ count.
+            Gave (bytes_left self.old) (take count into.new) (bytes_left self.new)) }
+        ensures end { IfOk result (λ count.
+            count ≡ 0 → 0 < length into.new → IsEmpty (bytes_left self.new)) }
+        ensures err { OnErr result (bytes_left self.new ≡ bytes_left self.old) }
+        ensures cause { HasCause self.old.calls.faults self.new.calls.faults result }
+        ensures unfailed { OnOk result (self.new.calls.faults ≡ self.old.calls.faults) }
     {
-        self.calls = self.calls.saturating_add(1);
-        if is_listed(&self.failing, self.calls) {
-            self.faults = self.faults.saturating_add(1);
-            return Err(Failed);
-        }
+        self.calls.make()?;
         while self.piece < self.pieces.len() {
             let piece = &self.pieces[self.piece];
             if self.offset < piece.len() {
@@ -132,9 +112,7 @@ pub struct MemSink {
     bytes: Vec<u8>,
     most: usize,
     room: usize,
-    failing: Vec<u64>,
-    calls: u64,
-    faults: u64,
+    calls: Calls,
 }
 
 impl Model for MemSink {
@@ -147,9 +125,7 @@ impl Model for MemSink {
       given = s.bytes.items;
       most = s.most;
       room = s.room;
-      failing = s.failing.items;
       calls = s.calls;
-      faults = s.faults;
     } };
 
     ghost invariant = { λ s. (1 ≤ s.most) × (vec_len s.bytes ≤ s.room) × (s.room ≤ vec_capacity s.bytes) };
@@ -167,17 +143,13 @@ impl MemSink {
         ensures given { IfOk result (λ sink. sink.given ≡ []) }
         ensures most { IfOk result (λ sink. sink.most ≡ most) }
         ensures room { IfOk result (λ sink. sink.room ≡ room) }
-        ensures failing { IfOk result (λ sink. sink.failing ≡ failing.items) }
-        ensures calls { IfOk result (λ sink. sink.calls ≡ 0) }
-        ensures faults { IfOk result (λ sink. sink.faults ≡ 0) }
+        ensures calls { IfOk result (λ sink. sink.calls ≡ first_calls failing.items) }
     {
         Ok(MemSink {
             bytes: Vec::with_capacity(alloc, room)?,
             most,
             room,
-            failing,
-            calls: 0,
-            faults: 0,
+            calls: Calls::new(failing),
         })
     }
 
@@ -190,30 +162,27 @@ impl MemSink {
 }
 
 impl Sink for MemSink {
-    ghost given = { λ s. Some s.given };
+    ghost given = { bytes_given };
 
-    ghost faults = { λ s. s.faults };
+    ghost faults = { λ s. s.calls.faults };
 
     ghost beside = { λ _. nothing_beside };
 
     fn put(&mut self, piece: &[u8]) -> Result<usize, Failed>
-        ensures fails { IsErr result ↔ SinkFails self.old piece.now }
-        ensures count { IfOk result (λ count. count ≡ min (min (length piece.now) self.old.most) (self.old.room - length self.old.given)) }
-        ensures after { IfOk result (λ count. self.new ≡ sink_got (take count piece.now) self.old) }
-        ensures failed { OnErr result (self.new ≡ sink_failed self.old) }
+        ensures puts { PutsFront self.old piece.now self.new result }
 
         ensures bound { IfOk result (λ count. count ≤ length piece.now) }
         ensures some { IfOk result (λ count. 0 < length piece.now → 0 < count) }
-        ensures bytes { IfOk result (λ count. Got (Some self.old.given) (take count piece.now) (Some self.new.given)) }
-        ensures err { OnErr result (self.new.given ≡ self.old.given) }
-        ensures cause { HasCause self.old.faults self.new.faults result }
-        ensures unfailed { OnOk result (self.new.faults ≡ self.old.faults) }
+        ensures bytes { IfOk result (λ count.
+            Got (bytes_given self.old) (take count piece.now) (bytes_given self.new)) }
+        ensures err { OnErr result (bytes_given self.new ≡ bytes_given self.old) }
+        ensures cause { HasCause self.old.calls.faults self.new.calls.faults result }
+        ensures unfailed { OnOk result (self.new.calls.faults ≡ self.old.calls.faults) }
     {
-        self.calls = self.calls.saturating_add(1);
+        self.calls.make()?;
         let free = self.room - self.bytes.len();
-        if is_listed(&self.failing, self.calls) || (free == 0 && !piece.is_empty()) {
-            self.faults = self.faults.saturating_add(1);
-            return Err(Failed);
+        if free == 0 && !piece.is_empty() {
+            return Err(self.calls.fail());
         }
         let count = piece.len().min(self.most).min(free);
         append_in_room(&mut self.bytes, &piece[..count]);

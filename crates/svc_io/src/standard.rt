@@ -1,10 +1,49 @@
 ghost use Rattle.std.specs.Prelude.{◌≡◌, ◌≤◌, ◌<◌, Option, None, Some, IfOk, OnOk, OnErr, Ok, length, take};
 ghost use Rattle.std.specs.Io.KnownBytes.{ReadConsumes, WriteAppends};
 ghost use Rattle.svc_io.specs.Bytes.{Gave, Got, IsEmpty};
-ghost use Rattle.svc_io.specs.Faults.{HasCause, nothing_beside};
+ghost use Rattle.svc_io.specs.Standard.{reader_of, read_faults, writer_of, write_faults};
+ghost use Rattle.svc_io.specs.Faults.{HasCause, nothing_beside, raised};
 
+use crate::traits::fault;
 use crate::{Failed, Sink, Source};
 use std::io::{Read, Write};
+
+// Reads once, and counts an error.
+pub(crate) fn read_from<R: Read>(
+    reader: &mut R,
+    into: &mut [u8],
+    faults: &mut u64,
+) -> Result<usize, Failed>
+    ensures read { ReadConsumes (R.remaining reader.old) (R.remaining reader.new) result into.new }
+    ensures bound { IfOk result (λ count. count ≤ length into.new) }
+    ensures cause { HasCause faults.old faults.new result }
+    ensures unfailed { OnOk result (faults.new ≡ faults.old) }
+    ensures failed { OnErr result (faults.new ≡ raised faults.old) }
+{
+    match reader.read(into) {
+        Ok(count) => Ok(count),
+        Err(_) => Err(fault(faults)),
+    }
+}
+
+// Writes once, and counts an error. That none of a nonempty piece was written is one.
+pub(crate) fn write_to<W: Write>(
+    writer: &mut W,
+    piece: &[u8],
+    faults: &mut u64,
+) -> Result<usize, Failed>
+    ensures written { WriteAppends (W.contents writer.old) (W.contents writer.new) result piece.now }
+    ensures bound { IfOk result (λ count. count ≤ length piece.now) }
+    ensures some { IfOk result (λ count. 0 < length piece.now → 0 < count) }
+    ensures cause { HasCause faults.old faults.new result }
+    ensures unfailed { OnOk result (faults.new ≡ faults.old) }
+    ensures failed { OnErr result (faults.new ≡ raised faults.old) }
+{
+    match writer.write(piece) {
+        Ok(count) if count > 0 || piece.is_empty() => Ok(count),
+        _ => Err(fault(faults)),
+    }
+}
 
 /// A source over any reader, as standard input. It tells no bytes. Each error of the reader is a
 /// fault, an interrupted call too, and is not tried again.
@@ -17,8 +56,8 @@ pub struct StdSource<R: Read> {
 impl<R: Read> StdSource<R> {
     /// A source over this reader. It takes no memory.
     pub fn new(reader: R) -> Self
-        ensures reader { result.reader ≡ reader }
-        ensures faults { result.faults ≡ 0 }
+        ensures reader { reader_of result ≡ reader }
+        ensures faults { read_faults result ≡ 0 }
     {
         StdSource { reader, faults: 0 }
     }
@@ -27,25 +66,21 @@ impl<R: Read> StdSource<R> {
 impl<R: Read> Source for StdSource<R> {
     ghost left = { λ _. None };
 
-    ghost faults = { λ s. s.faults };
+    ghost faults = { read_faults };
 
     ghost beside = { λ _. nothing_beside };
 
     fn take(&mut self, into: &mut [u8]) -> Result<usize, Failed>
         // Where the reader itself tells its bytes, this call reads them.
-        ensures read { ReadConsumes (R.remaining self.old.reader) (R.remaining self.new.reader) result into.new }
+        ensures read { ReadConsumes
+            (R.remaining (reader_of self.old)) (R.remaining (reader_of self.new)) result into.new }
 
         ensures bound { IfOk result (λ count. count ≤ length into.new) }
-        ensures cause { HasCause self.old.faults self.new.faults result }
-        ensures unfailed { OnOk result (self.new.faults ≡ self.old.faults) }
+        ensures cause { HasCause (read_faults self.old) (read_faults self.new) result }
+        ensures unfailed { OnOk result (read_faults self.new ≡ read_faults self.old) }
+        ensures failed { OnErr result (read_faults self.new ≡ raised (read_faults self.old)) }
     {
-        match self.reader.read(into) {
-            Ok(count) => Ok(count),
-            Err(_) => {
-                self.faults = self.faults.saturating_add(1);
-                Err(Failed)
-            }
-        }
+        read_from(&mut self.reader, into, &mut self.faults)
     }
 }
 
@@ -61,8 +96,8 @@ pub struct StdSink<W: Write> {
 impl<W: Write> StdSink<W> {
     /// A sink over this writer. It takes no memory.
     pub fn new(writer: W) -> Self
-        ensures writer { result.writer ≡ writer }
-        ensures faults { result.faults ≡ 0 }
+        ensures writer { writer_of result ≡ writer }
+        ensures faults { write_faults result ≡ 0 }
     {
         StdSink { writer, faults: 0 }
     }
@@ -71,26 +106,22 @@ impl<W: Write> StdSink<W> {
 impl<W: Write> Sink for StdSink<W> {
     ghost given = { λ _. None };
 
-    ghost faults = { λ s. s.faults };
+    ghost faults = { write_faults };
 
     ghost beside = { λ _. nothing_beside };
 
     fn put(&mut self, piece: &[u8]) -> Result<usize, Failed>
         // Where the writer itself tells its bytes, this call writes them.
-        ensures written { WriteAppends (W.contents self.old.writer) (W.contents self.new.writer) result piece.now }
+        ensures written { WriteAppends
+            (W.contents (writer_of self.old)) (W.contents (writer_of self.new)) result piece.now }
 
         ensures bound { IfOk result (λ count. count ≤ length piece.now) }
         ensures some { IfOk result (λ count. 0 < length piece.now → 0 < count) }
-        ensures cause { HasCause self.old.faults self.new.faults result }
-        ensures unfailed { OnOk result (self.new.faults ≡ self.old.faults) }
+        ensures cause { HasCause (write_faults self.old) (write_faults self.new) result }
+        ensures unfailed { OnOk result (write_faults self.new ≡ write_faults self.old) }
+        ensures failed { OnErr result (write_faults self.new ≡ raised (write_faults self.old)) }
     {
-        match self.writer.write(piece) {
-            Ok(count) if count > 0 || piece.is_empty() => Ok(count),
-            _ => {
-                self.faults = self.faults.saturating_add(1);
-                Err(Failed)
-            }
-        }
+        write_to(&mut self.writer, piece, &mut self.faults)
     }
 }
 

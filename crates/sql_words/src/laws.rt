@@ -1,0 +1,34 @@
+//! Laws of the definitions that the other contracts cite. Each stands in the contract of a function that does nothing.
+
+ghost use Rattle.sql_words.specs.KeywordLaws as keywords;
+ghost use Rattle.sql_words.specs.StreamLaws as law;
+
+/// A stream has a division into parts, and no other, and the parts are the stream.
+///
+/// The parts are the lexical elements of SQL:2003 as far as the ends of statements need them: literals, quoted names, simple
+/// and bracketed comments, runs of letters, digits and underscores, and other bytes.
+pub fn each_stream_has_one_division()
+    ensures division { law.EachStreamHasOneDivision }
+    ensures parts { law.PartsJoinToTheStream }
+{
+}
+
+/// The texts of a stream and its rest are those of its parts, and it is blank where each of them is.
+pub fn texts_are_those_of_the_parts()
+    ensures texts { law.TextsAreThoseOfTheParts }
+    ensures blank { law.BlankByParts }
+{
+}
+
+/// Where a stream goes on, its texts and its rest go on from its rest so far.
+pub fn pieces_compose()
+    ensures { law.PiecesCompose }
+{
+}
+
+/// A plain word has the kind of a reserved word exactly where it is one of SQL:2003's in this profile, and stands for a name
+/// exactly where it isn't.
+pub fn reserved_words_are_no_names()
+    ensures { keywords.ReservedWordsAreNoNames }
+{
+}
