@@ -29,8 +29,8 @@ pub(crate) const MACHINE: usize = 0;
 /// for the machine need not be a type that can be let go.
 pub struct Shared<M: Machine> {
     pub(crate) table: Table<Option<M>, View<M::Made>, Snapshot<M>, OneTurn<M>, Global>,
-    // How many threads sleep until the turn is free, or are about to.
-    pub(crate) sleepers: AtomicU64,
+    // 1 where a thread may sleep on it until the turn is free.
+    pub(crate) asleep: AtomicU64,
 }
 
 impl<M: Machine> Model for Shared<M> {
@@ -62,7 +62,7 @@ impl<M: Machine> Shared<M> {
             Ok((table, seat)) => Ok((
                 Shared {
                     table,
-                    sleepers: AtomicU64::new(0),
+                    asleep: AtomicU64::new(0),
                 },
                 Pass {
                     number: 0,
@@ -159,7 +159,7 @@ impl<M: Machine> Shared<M> {
         ensures joined { All (λ x. calls_by x.number (M.history result) ≡ x.calls) pass.joined }
         ensures others { All (λ e. (e.session ≡ 0) ⊎ IsJoined e.session pass.joined) (M.history result) }
     {
-        let Shared { table, sleepers: _ } = self;
+        let Shared { table, asleep: _ } = self;
         let Pass {
             number: _,
             next: _,

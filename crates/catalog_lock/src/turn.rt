@@ -65,12 +65,22 @@ impl<M: Machine> Shared<M> {
         true
     }
 
-    // Sleeps until a release, if the turn is taken. A release after the first step here sees that someone sleeps, and
-    // one before it has made the turn free.
+    // Sleeps until a release, if the turn is taken. It says so first, so a release that doesn't see it has made the turn
+    // free before this looks. A wake is for one sleeper alone: who was woken says it again for the others.
     fn sleep<R: Wait>(&self, rt: &R) {
-        self.sleepers.fetch_add(1, SeqCst);
-        self.table.shared.park(rt, TURN, 1);
-        self.sleepers.fetch_sub(1, SeqCst);
+        self.asleep.store(1, SeqCst);
+        if self.table.shared.peek(TURN) == 1 {
+            self.asleep.park(rt, 1);
+            self.asleep.store(1, SeqCst);
+        }
+    }
+
+    // Wakes one of those who sleep, if any may. Whoever is about to sleep then finds the 0, and doesn't.
+    fn wake(&self) {
+        if self.asleep.load(SeqCst) == 1 {
+            self.asleep.store(0, SeqCst);
+            self.asleep.wake_one();
+        }
     }
 
     // Puts the machine into the slot, which stays with the seat.
@@ -115,8 +125,6 @@ impl<M: Machine> Shared<M> {
         ensures view { seat.new.me ≡ (without_turn seat.old.me.0, []) }
     {
         self.table.shared.store::<Release<M>>(seat, TURN, 0);
-        if self.sleepers.load(SeqCst) != 0 {
-            self.table.shared.wake_one(TURN);
-        }
+        self.wake();
     }
 }

@@ -1,0 +1,188 @@
+//! Bodies of routines.
+
+ghost use Rattle.std.specs.Prelude.{◌≡◌, IfOk};
+
+use crate::column::ObjectName;
+use crate::copies::EqualCopy;
+use crate::expr::{Expr, Query};
+use crate::name::Name;
+use sqlite_items::Items;
+use std::alloc::{AllocError, Global};
+
+/// Whose rights a routine runs with: its owner's or its caller's.
+#[derive(Clone, Copy, Debug, PartialEq, Eq)]
+pub enum Security {
+    Definer,
+    Invoker,
+}
+
+/// What a routine does.
+#[derive(Debug, Drop)]
+pub enum Body {
+    /// `RETURN expression`, of a function.
+    Return {
+        security: Security,
+        expr: Expr,
+    },
+    /// `BEGIN ATOMIC act; .. END`, of a procedure: one or more acts.
+    Atomic {
+        security: Security,
+        acts: Items<Act>,
+    },
+}
+
+/// A statement in a procedure's body.
+#[derive(Debug, Drop)]
+pub enum Act {
+    /// `columns` is empty where no list is written. In a resolved tree it has the columns.
+    Insert {
+        table: ObjectName,
+        columns: Items<Name>,
+        source: InsertSource,
+    },
+    Update {
+        table: ObjectName,
+        assignments: Items<Assignment>,
+        filter: Option<Expr>,
+    },
+    Delete {
+        table: ObjectName,
+        filter: Option<Expr>,
+    },
+    Call {
+        routine: ObjectName,
+        arguments: Items<Expr>,
+    },
+}
+
+/// What an INSERT puts in.
+#[derive(Debug, Drop)]
+pub enum InsertSource {
+    /// One or more.
+    Values(Items<AssignedValue>),
+    Query(Query),
+}
+
+/// `column = value` after SET.
+#[derive(Debug, Drop)]
+pub struct Assignment {
+    pub column: Name,
+    pub value: AssignedValue,
+}
+
+/// A value that a column is given.
+#[derive(Debug, Drop)]
+pub enum AssignedValue {
+    Null,
+    Default,
+    Expr(Expr),
+}
+
+impl Body {
+    /// An equal value.
+    pub fn copy(&self, alloc: Global) -> Result<Body, AllocError>
+        ensures { IfOk result (λ copy. copy ≡ self.now) }
+    {
+        match self {
+            Body::Return { security, expr } => Ok(Body::Return {
+                security: *security,
+                expr: expr.copy(alloc)?,
+            }),
+            Body::Atomic { security, acts } => Ok(Body::Atomic {
+                security: *security,
+                acts: acts.equal_copy(alloc)?,
+            }),
+        }
+    }
+}
+
+impl Act {
+    /// An equal value.
+    pub fn copy(&self, alloc: Global) -> Result<Act, AllocError>
+        ensures { IfOk result (λ copy. copy ≡ self.now) }
+    {
+        match self {
+            Act::Insert {
+                table,
+                columns,
+                source,
+            } => Ok(Act::Insert {
+                table: table.copy()?,
+                columns: columns.equal_copy(alloc)?,
+                source: source.copy(alloc)?,
+            }),
+            Act::Update {
+                table,
+                assignments,
+                filter,
+            } => Ok(Act::Update {
+                table: table.copy()?,
+                assignments: assignments.equal_copy(alloc)?,
+                filter: filter.equal_copy(alloc)?,
+            }),
+            Act::Delete { table, filter } => Ok(Act::Delete {
+                table: table.copy()?,
+                filter: filter.equal_copy(alloc)?,
+            }),
+            Act::Call { routine, arguments } => Ok(Act::Call {
+                routine: routine.copy()?,
+                arguments: arguments.equal_copy(alloc)?,
+            }),
+        }
+    }
+}
+
+impl EqualCopy for Act {
+    fn equal_copy(&self, alloc: Global) -> Result<Act, AllocError> {
+        self.copy(alloc)
+    }
+}
+
+impl InsertSource {
+    /// An equal value.
+    pub fn copy(&self, alloc: Global) -> Result<InsertSource, AllocError>
+        ensures { IfOk result (λ copy. copy ≡ self.now) }
+    {
+        match self {
+            InsertSource::Values(part) => Ok(InsertSource::Values(part.equal_copy(alloc)?)),
+            InsertSource::Query(part) => Ok(InsertSource::Query(part.copy(alloc)?)),
+        }
+    }
+}
+
+impl Assignment {
+    /// An equal value.
+    pub fn copy(&self, alloc: Global) -> Result<Assignment, AllocError>
+        ensures { IfOk result (λ copy. copy ≡ self.now) }
+    {
+        Ok(Assignment {
+            column: self.column.copy()?,
+            value: self.value.copy(alloc)?,
+        })
+    }
+}
+
+impl EqualCopy for Assignment {
+    fn equal_copy(&self, alloc: Global) -> Result<Assignment, AllocError> {
+        self.copy(alloc)
+    }
+}
+
+impl AssignedValue {
+    /// An equal value.
+    pub fn copy(&self, alloc: Global) -> Result<AssignedValue, AllocError>
+        ensures { IfOk result (λ copy. copy ≡ self.now) }
+    {
+        match self {
+            AssignedValue::Null => Ok(AssignedValue::Null),
+            AssignedValue::Default => Ok(AssignedValue::Default),
+            AssignedValue::Expr(part) => Ok(AssignedValue::Expr(part.copy(alloc)?)),
+        }
+    }
+}
+
+impl EqualCopy for AssignedValue {
+    fn equal_copy(&self, alloc: Global) -> Result<AssignedValue, AllocError> {
+        self.copy(alloc)
+    }
+}
