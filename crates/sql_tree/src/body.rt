@@ -1,11 +1,15 @@
 //! Bodies of routines.
 
-ghost use Rattle.std.specs.Prelude.{◌≡◌, IfOk};
+mod print;
+
+ghost use Rattle.std.specs.Prelude.{◌≡◌, ◌↔◌, IfOk, IsTrue};
 
 use crate::column::ObjectName;
 use crate::copies::EqualCopy;
 use crate::expr::{Expr, Query};
 use crate::name::Name;
+use crate::sameness::Same;
+pub use print::{print_body, put_body};
 use sqlite_items::Items;
 use std::alloc::{AllocError, Global};
 
@@ -184,5 +188,141 @@ impl AssignedValue {
 impl EqualCopy for AssignedValue {
     fn equal_copy(&self, alloc: Global) -> Result<AssignedValue, AllocError> {
         self.copy(alloc)
+    }
+}
+
+impl Body {
+    /// Whether the two are equal in all parts.
+    pub fn same(&self, other: &Body) -> bool
+        ensures { IsTrue result ↔ (self.now ≡ other.now) }
+    {
+        match (self, other) {
+            (
+                Body::Return { security, expr },
+                Body::Return {
+                    security: other_security,
+                    expr: other_expr,
+                },
+            ) => { security == other_security && expr.same(other_expr) }
+            (
+                Body::Atomic { security, acts },
+                Body::Atomic {
+                    security: other_security,
+                    acts: other_acts,
+                },
+            ) => { security == other_security && acts.same_as(other_acts) }
+            _ => false,
+        }
+    }
+}
+
+impl Act {
+    /// Whether the two are equal in all parts.
+    pub fn same(&self, other: &Act) -> bool
+        ensures { IsTrue result ↔ (self.now ≡ other.now) }
+    {
+        match (self, other) {
+            (
+                Act::Insert {
+                    table,
+                    columns,
+                    source,
+                },
+                Act::Insert {
+                    table: other_table,
+                    columns: other_columns,
+                    source: other_source,
+                },
+            ) => {
+                table.same(other_table)
+                    && columns.same_as(other_columns)
+                    && source.same(other_source)
+            }
+            (
+                Act::Update {
+                    table,
+                    assignments,
+                    filter,
+                },
+                Act::Update {
+                    table: other_table,
+                    assignments: other_assignments,
+                    filter: other_filter,
+                },
+            ) => {
+                table.same(other_table)
+                    && assignments.same_as(other_assignments)
+                    && filter.same_as(other_filter)
+            }
+            (
+                Act::Delete { table, filter },
+                Act::Delete {
+                    table: other_table,
+                    filter: other_filter,
+                },
+            ) => { table.same(other_table) && filter.same_as(other_filter) }
+            (
+                Act::Call { routine, arguments },
+                Act::Call {
+                    routine: other_routine,
+                    arguments: other_arguments,
+                },
+            ) => { routine.same(other_routine) && arguments.same_as(other_arguments) }
+            _ => false,
+        }
+    }
+}
+
+impl Same for Act {
+    fn same_as(&self, other: &Act) -> bool {
+        self.same(other)
+    }
+}
+
+impl InsertSource {
+    /// Whether the two are equal in all parts.
+    pub fn same(&self, other: &InsertSource) -> bool
+        ensures { IsTrue result ↔ (self.now ≡ other.now) }
+    {
+        match (self, other) {
+            (InsertSource::Values(a), InsertSource::Values(b)) => a.same_as(b),
+            (InsertSource::Query(a), InsertSource::Query(b)) => a.same(b),
+            _ => false,
+        }
+    }
+}
+
+impl Assignment {
+    /// Whether the two are equal in all parts.
+    pub fn same(&self, other: &Assignment) -> bool
+        ensures { IsTrue result ↔ (self.now ≡ other.now) }
+    {
+        self.column.same(&other.column) && self.value.same(&other.value)
+    }
+}
+
+impl Same for Assignment {
+    fn same_as(&self, other: &Assignment) -> bool {
+        self.same(other)
+    }
+}
+
+impl AssignedValue {
+    /// Whether the two are equal in all parts.
+    pub fn same(&self, other: &AssignedValue) -> bool
+        ensures { IsTrue result ↔ (self.now ≡ other.now) }
+    {
+        match (self, other) {
+            (AssignedValue::Null, AssignedValue::Null) => true,
+            (AssignedValue::Default, AssignedValue::Default) => true,
+            (AssignedValue::Expr(a), AssignedValue::Expr(b)) => a.same(b),
+            _ => false,
+        }
+    }
+}
+
+impl Same for AssignedValue {
+    fn same_as(&self, other: &AssignedValue) -> bool {
+        self.same(other)
     }
 }

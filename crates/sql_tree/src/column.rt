@@ -1,10 +1,11 @@
 //! Names as they are written, and what they refer to.
 
-ghost use Rattle.std.specs.Prelude.{◌≡◌, IfOk};
+ghost use Rattle.std.specs.Prelude.{◌≡◌, ◌↔◌, IfOk, IsTrue};
 
 use crate::copies::{EqualCopy, copy_optional_name};
 use crate::name::Name;
 use crate::object::Object;
+use crate::sameness::Same;
 use std::alloc::{AllocError, Global};
 
 /// An object as it is written. In a resolved tree it is `Qualified`.
@@ -109,5 +110,81 @@ impl TableReference {
             table: self.table.copy()?,
             correlation: copy_optional_name(&self.correlation)?,
         })
+    }
+}
+
+impl ObjectName {
+    /// Whether the two are equal in all parts.
+    pub fn same(&self, other: &ObjectName) -> bool
+        ensures { IsTrue result ↔ (self.now ≡ other.now) }
+    {
+        match (self, other) {
+            (ObjectName::Unqualified(a), ObjectName::Unqualified(b)) => a.same(b),
+            (ObjectName::Qualified(a), ObjectName::Qualified(b)) => a.same(b),
+            _ => false,
+        }
+    }
+}
+
+impl Reference {
+    /// Whether the two are equal in all parts.
+    pub fn same(&self, other: &Reference) -> bool
+        ensures { IsTrue result ↔ (self.now ≡ other.now) }
+    {
+        match (self, other) {
+            (Reference::Unqualified(a), Reference::Unqualified(b)) => a.same(b),
+            (
+                Reference::Qualified { qualifier, name },
+                Reference::Qualified {
+                    qualifier: other_qualifier,
+                    name: other_name,
+                },
+            ) => { qualifier.same(other_qualifier) && name.same(other_name) }
+            (
+                Reference::Cell {
+                    up,
+                    at,
+                    qualifier,
+                    name,
+                },
+                Reference::Cell {
+                    up: other_up,
+                    at: other_at,
+                    qualifier: other_qualifier,
+                    name: other_name,
+                },
+            ) => {
+                up == other_up
+                    && at == other_at
+                    && qualifier.same(other_qualifier)
+                    && name.same(other_name)
+            }
+            (
+                Reference::Own { table, name },
+                Reference::Own {
+                    table: other_table,
+                    name: other_name,
+                },
+            ) => { table.same(other_table) && name.same(other_name) }
+            (Reference::Param { name }, Reference::Param { name: other_name }) => {
+                name.same(other_name)
+            }
+            _ => false,
+        }
+    }
+}
+
+impl Same for Reference {
+    fn same_as(&self, other: &Reference) -> bool {
+        self.same(other)
+    }
+}
+
+impl TableReference {
+    /// Whether the two are equal in all parts.
+    pub fn same(&self, other: &TableReference) -> bool
+        ensures { IsTrue result ↔ (self.now ≡ other.now) }
+    {
+        self.table.same(&other.table) && self.correlation.same_as(&other.correlation)
     }
 }

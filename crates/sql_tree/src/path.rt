@@ -1,6 +1,6 @@
 //! Paths.
 
-ghost use Rattle.std.specs.Prelude.{◌≡◌, ◌<◌, ◌≤◌, [], ◌∷◌, length, slice_get, IfOk};
+ghost use Rattle.std.specs.Prelude.{◌≡◌, ◌<◌, ◌≤◌, [], ◌∷◌, length, slice_get, IfOk, ◌↔◌, IsTrue};
 ghost use Rattle.std.specs.Option.{option_copied};
 ghost use Rattle.std.specs.Ordering.{nat_cmp, eq_by_cmp, as_partial_cmp};
 ghost use Rattle.std.specs.Cmp.Lexicographic.{slice_cmp};
@@ -30,6 +30,8 @@ enum Names {
 pub struct Path {
     names: Names,
 }
+
+const _: () = prove!(size_of::<Path>() == 32);
 
 impl Model for Path {
     ghost use Rattle.std.specs.Prelude.{List, ℕ};
@@ -90,6 +92,18 @@ impl Path {
             (Names::Two(_, name) | Names::Three(_, name, _), 1) => Some(name),
             (Names::Three(_, _, name), 2) => Some(name),
             _ => None,
+        }
+    }
+
+    /// Whether the two have the same names, as `==` says.
+    pub fn same(&self, other: &Path) -> bool
+        ensures { IsTrue result ↔ (self.now ≡ other.now) }
+    {
+        match (&self.names, &other.names) {
+            (Names::One(a), Names::One(x)) => a.same(x),
+            (Names::Two(a, b), Names::Two(x, y)) => a.same(x) && b.same(y),
+            (Names::Three(a, b, c), Names::Three(x, y, z)) => a.same(x) && b.same(y) && c.same(z),
+            _ => false,
         }
     }
 

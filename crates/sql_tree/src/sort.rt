@@ -1,9 +1,10 @@
 //! Data types and defaults.
 
-ghost use Rattle.std.specs.Prelude.{◌≡◌, IfOk};
+ghost use Rattle.std.specs.Prelude.{◌≡◌, ◌↔◌, IfOk, IsTrue};
 
 use crate::copies::EqualCopy;
 use crate::name::Name;
+use crate::sameness::Same;
 use crate::text::Text;
 use std::alloc::{AllocError, Global};
 
@@ -93,5 +94,49 @@ impl Param {
 impl EqualCopy for Param {
     fn equal_copy(&self, _alloc: Global) -> Result<Param, AllocError> {
         self.copy()
+    }
+}
+
+impl Default {
+    /// Whether the two are equal in all parts.
+    pub fn same(&self, other: &Default) -> bool
+        ensures { IsTrue result ↔ (self.now ≡ other.now) }
+    {
+        match (self, other) {
+            (Default::Literal(a), Default::Literal(b)) => a.same(b),
+            (
+                Default::Number { minus, text },
+                Default::Number {
+                    minus: other_minus,
+                    text: other_text,
+                },
+            ) => { minus == other_minus && text.same(other_text) }
+            (Default::True, Default::True) => true,
+            (Default::False, Default::False) => true,
+            (Default::Null, Default::Null) => true,
+            (Default::Special(a), Default::Special(b)) => a == b,
+            _ => false,
+        }
+    }
+}
+
+impl Same for Default {
+    fn same_as(&self, other: &Default) -> bool {
+        self.same(other)
+    }
+}
+
+impl Param {
+    /// Whether the two are equal in all parts.
+    pub fn same(&self, other: &Param) -> bool
+        ensures { IsTrue result ↔ (self.now ≡ other.now) }
+    {
+        self.name.same(&other.name) && self.sort == other.sort
+    }
+}
+
+impl Same for Param {
+    fn same_as(&self, other: &Param) -> bool {
+        self.same(other)
     }
 }

@@ -1,8 +1,8 @@
 -- Each stream has one division, and its parts join to it.
-use Rattle.std.proofs.Common.{◌≡◌, ◌<◌, ◌≤◌, ℕ, zero, suc, ◌+◌, ◌-◌, List, [], ◌∷◌, ◌++◌, take, drop, length, Option, Some, None, refl, sym, ap, ◌∙◌, arith, length-drop}
+use Rattle.std.proofs.Common.{◌≡◌, ◌<◌, ◌≤◌, ℕ, zero, suc, List, [], ◌∷◌, ◌++◌, take, drop, length, Option, Some, None, refl, sym, ap, ◌∙◌, arith, length-drop}
 use Rattle.std.specs.List.{flat_map}
 use Rattle.std.proofs.lemmas.List.{take-append-drop}
-use Rattle.sql_words.specs.Division.{Form, Part, Extent, Divides, front, front_part, delimited}
+use Rattle.sql_words.specs.Division.{Form, Part, Divides, front, front_part, delimited}
 use Rattle.sql_words.proofs.Fronts.{by-front}
 
 delimited-some : (form cut : Form) (opening : ℕ) (b : List ℕ) (size : Option ℕ) → 0 < opening → 0 < (delimited form cut opening b size).size

@@ -23,6 +23,7 @@ pub level-low : (held piece : List ℕ) (i : ℕ) (scan : Scan) → scan ≡ sca
 level-low held piece i scan is few = rw is (omega (arith, level-held held piece i))
 
 ends-is : (held piece : List ℕ) (i : ℕ) (scan : Scan) (b : Bool) → Stands held piece i scan → b ≡ ends_scan scan (get_or piece i 0) → ends (held ++ take i piece) (get_or piece i 0) ≡ b
+unfolding ends
 ends-is held piece i scan b at told = sym (told ∙ ap (λ s. ends_scan s (get_or piece i 0)) at.scanned)
 
 pub texts-end : (held piece : List ℕ) (i : ℕ) (scan : Scan) → Stands held piece i scan → true ≡ ends_scan scan (get_or piece i 0) → texts_from held (take (i + 1) piece) ≡ (held ++ take i piece) ∷ []

@@ -1,8 +1,8 @@
 -- The part at the front, by its first bytes.
-use Rattle.std.proofs.Common.{◌≡◌, ◌<◌, ◌≤◌, ◌==◌, ◌&&◌, if◌then◌else◌, Bool, true, false, ℕ, suc, ◌+◌, List, [], ◌∷◌, ◌++◌, drop, take, length, Option, Some, None, refl, sym, ap, ◌∙◌, arith}
+use Rattle.std.proofs.Common.{◌≡◌, ◌==◌, ◌&&◌, if◌then◌else◌, Bool, true, false, ℕ, ◌+◌, List, [], ◌∷◌, drop, refl, ap}
 use Rattle.std.specs.List.{prefix_len}
 use Rattle.std.proofs.lemmas.Bool.{eqb-true}
-use Rattle.sql_words.specs.Division.{Form, Literal, QuotedName, SimpleComment, BracketedComment, Unclosed, Run, Other, Extent, delimited, simple_comment, bracketed_comment, size_to, size_to_bracket, front, begins_with, is_run_byte}
+use Rattle.sql_words.specs.Division.{Literal, QuotedName, Unclosed, Run, Other, Extent, delimited, simple_comment, bracketed_comment, size_to, front, begins_with, is_run_byte}
 
 -- a byte of a run begins nothing else
 pub record IsRunByte (c : ℕ) : Type 0 where
@@ -49,7 +49,6 @@ module _ (P : ℕ → List ℕ → Extent → Type 0)
     (bracketed : (b : List ℕ) → P 47 (42 ∷ b) (bracketed_comment b))
     (run : (c : ℕ) (b : List ℕ) → IsRunByte c → P c b (record { form = Run; size = 1 + prefix_len is_run_byte b }))
     (other : (c : ℕ) (b : List ℕ) → IsOther c b → P c b (record { form = Other; size = 1 })) where
-
   rest-run : (c : ℕ) (b : List ℕ) → (c == 39) ≡ false → (c == 34) ≡ false → ((c == 45) && begins_with 45 b) ≡ false → ((c == 47) && begins_with 42 b) ≡ false
       → (t : Bool) → is_run_byte c ≡ t → P c b (if t then record { form = Run; size = prefix_len is_run_byte (c ∷ b) } else record { form = Other; size = 1 })
   rest-run c b n39 n34 n45 n47 true e = rw e (run c b (run-byte c e))

@@ -1,6 +1,6 @@
 -- The white space or the comment at the front of a text, by its first bytes.
-use Rattle.std.proofs.Common.{◌≡◌, ◌<◌, ◌==◌, ◌||◌, ◌&&◌, if◌then◌else◌, Bool, true, false, List, [], ◌∷◌, ℕ, ◌+◌, Option, Some, None, length, take, drop, get_or, refl, sym, ◌∙◌, arith}
-use Rattle.std.specs.List.{prefix_len, list_all}
+use Rattle.std.proofs.Common.{◌≡◌, ◌<◌, ◌==◌, ◌||◌, if◌then◌else◌, Bool, true, false, List, [], ◌∷◌, ℕ, Option, Some, None, length, drop, get_or, refl, sym, ◌∙◌, arith}
+use Rattle.std.specs.List.{prefix_len}
 use Rattle.std.specs.Char.{is_ascii_alphabetic}
 use Rattle.std.specs.Int.{is_in_range}
 use Rattle.std.proofs.lemmas.Bool.{eqb-true, ne_eqb}
@@ -48,26 +48,32 @@ space-cases c P space p32 p9 p10 p11 p12 p13 = by32 (c == 32) refl
   where
     is : (n : ℕ) → (c == n) ≡ true → P n → P c
     is n e p = rw (eqb-true c n e) p
+
     by13 : (b : Bool) → (c == 13) ≡ b → (c == 12) ≡ false → (c == 11) ≡ false → (c == 10) ≡ false → (c == 9) ≡ false → (c == 32) ≡ false → P c
     by13 true e n12 n11 n10 n9 n32 = is 13 e p13
     by13 false e n12 n11 n10 n9 n32 = let no : true ≡ false = sym space ∙ rw (n32, n9, n10, n11, n12, e) refl in absurd (cc)
+
     by12 : (b : Bool) → (c == 12) ≡ b → (c == 11) ≡ false → (c == 10) ≡ false → (c == 9) ≡ false → (c == 32) ≡ false → P c
     by12 true e n11 n10 n9 n32 = is 12 e p12
     by12 false e n11 n10 n9 n32 = by13 (c == 13) refl e n11 n10 n9 n32
+
     by11 : (b : Bool) → (c == 11) ≡ b → (c == 10) ≡ false → (c == 9) ≡ false → (c == 32) ≡ false → P c
     by11 true e n10 n9 n32 = is 11 e p11
     by11 false e n10 n9 n32 = by12 (c == 12) refl e n10 n9 n32
+
     by10 : (b : Bool) → (c == 10) ≡ b → (c == 9) ≡ false → (c == 32) ≡ false → P c
     by10 true e n9 n32 = is 10 e p10
     by10 false e n9 n32 = by11 (c == 11) refl e n9 n32
+
     by9 : (b : Bool) → (c == 9) ≡ b → (c == 32) ≡ false → P c
     by9 true e n32 = is 9 e p9
     by9 false e n32 = by10 (c == 10) refl e n32
+
     by32 : (b : Bool) → (c == 32) ≡ b → P c
     by32 true e = is 32 e p32
     by32 false e = by9 (c == 9) refl e
 
-space-gap : (c : ℕ) (b : List ℕ) → is_space c ≡ true → gap (c ∷ b) ≡ 1
+pub space-gap : (c : ℕ) (b : List ℕ) → is_space c ≡ true → gap (c ∷ b) ≡ 1
 unfolding gap front is_run_byte is_space
 space-gap c b space = space-cases c (λ d. gap (d ∷ b) ≡ 1) space refl refl refl refl refl refl
 
@@ -105,7 +111,7 @@ letter-in-run false true lower underscore h = refl
 letter-in-run false false true underscore h = refl
 letter-in-run false false false underscore h = cc
 
-letter-run : (c : ℕ) → is_ascii_alphabetic c ≡ true → is_run_byte c ≡ true
+pub letter-run : (c : ℕ) → is_ascii_alphabetic c ≡ true → is_run_byte c ≡ true
 unfolding is_run_byte
 letter-run c letter = letter-in-run (is_in_range 48 57 c) (is_in_range 65 90 c) (is_in_range 97 122 c) (c == 95) letter
 

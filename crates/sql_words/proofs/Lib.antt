@@ -13,3 +13,8 @@ pub mod Passing
 pub mod Steps
 pub mod Parts
 pub mod ReservedWords
+pub mod Bytes
+pub mod Doubling
+pub mod TokenForms
+pub mod ReadWords
+pub mod SpelledWords

@@ -1,25 +1,25 @@
 -- The texts of a stream, its rest and whether it is blank are those of its parts.
-use Rattle.std.proofs.Common.{◌≡◌, ◌==◌, ◌&&◌, if◌then◌else◌, Bool, true, false, ℕ, List, [], ◌∷◌, ◌++◌, take, drop, fold, refl, sym, ap, subst, ◌∙◌, append_assoc, append-nil}
-use Rattle.std.specs.List.{list_all}
+use Rattle.std.proofs.Common.{◌≡◌, ◌&&◌, Bool, true, false, ℕ, List, [], ◌∷◌, ◌++◌, take, drop, fold, refl, sym, ap, subst, ◌∙◌, append_assoc, append-nil}
 use Rattle.std.proofs.lemmas.Grind.{fold-append}
 use Rattle.std.proofs.lemmas.List.{take-append-drop}
 use Rattle.sql_words.specs.Division.{Form, Part, Divides, front, front_part, texts_of, rest_of, ends_statement, level_past, is_blank_part, are_blank}
-use Rattle.sql_words.specs.Scanning.{scan_of, scan_after, ends_scan, start, is_blank_scan, begins, level_with}
+use Rattle.sql_words.specs.Scanning.{scan_of, scan_after, start, is_blank_scan, begins}
 use Rattle.sql_words.specs.Stream.{texts_from, rest_from, texts, rest, ends, is_blank}
-use Rattle.sql_words.specs.declared.scan.OpenPart.TheVariants as o
 use Rattle.sql_words.specs.declared.scan.Scan.{Scan}
-use Rattle.sql_words.proofs.Passing.{Quiet, in_part}
+use Rattle.sql_words.proofs.Passing.{Quiet}
 use Rattle.sql_words.proofs.Scans.{scan_of-more}
 use Rattle.sql_words.proofs.Steps.{Stands, Steps, steps}
 
 -- bytes that end nothing are held
 through : (held bs more : List ℕ) → Quiet (scan_of held) bs → (texts_from held (bs ++ more) ≡ texts_from (held ++ bs) more) × (rest_from held (bs ++ more) ≡ rest_from (held ++ bs) more)
+unfolding ends
 through held [] more quiet = rw (append-nil held) (refl, refl)
 through held (c ∷ bs) more quiet = rw (quiet.0, ← append_assoc held (c ∷ []) bs)
     (through (held ++ c ∷ []) bs more (let P : Scan → Type 0 = λ s. Quiet s bs in subst P (sym (scan_of-more held c)) quiet.1))
 
 -- a semicolon at level 0
 at-end : (held b : List ℕ) (blank : Bool) → Stands (scan_of held) 0 blank (59 ∷ b) → ends held 59 ≡ true
+unfolding ends
 at-end held b blank at = rw (at.fresh, at.levelled) refl
 
 -- these parts make the texts and the rest
@@ -90,9 +90,9 @@ blank-parts (p ∷ ps) (c ∷ b) scan level blank at d =
     let step : Steps scan level blank (c ∷ b) (front (c ∷ b)) = steps scan level blank c b at in
     let n : ℕ = (front (c ∷ b)).size in
     let later : is_blank_scan (fold scan_after step.new (drop (front (c ∷ b)).size (c ∷ b)))
-        ≡ ((blank && is_blank_part (front (c ∷ b)).form (take (front (c ∷ b)).size (c ∷ b))) && are_blank ps) = blank-parts ps (drop (front (c ∷ b)).size (c ∷ b)) step.new _ _ step.stands d.2 in
+    ≡ ((blank && is_blank_part (front (c ∷ b)).form (take (front (c ∷ b)).size (c ∷ b))) && are_blank ps) = blank-parts ps (drop (front (c ∷ b)).size (c ∷ b)) step.new _ _ step.stands d.2 in
     let joined : fold scan_after scan (c ∷ b) ≡ fold scan_after step.new (drop (front (c ∷ b)).size (c ∷ b)) =
-        ap (λ l. fold scan_after scan l) (sym (take-append-drop (front (c ∷ b)).size (c ∷ b))) ∙ (fold-append scan_after scan (take (front (c ∷ b)).size (c ∷ b)) (drop (front (c ∷ b)).size (c ∷ b)) ∙ ap (λ s. fold scan_after s (drop (front (c ∷ b)).size (c ∷ b))) step.goes) in
+    ap (λ l. fold scan_after scan l) (sym (take-append-drop (front (c ∷ b)).size (c ∷ b))) ∙ (fold-append scan_after scan (take (front (c ∷ b)).size (c ∷ b)) (drop (front (c ∷ b)).size (c ∷ b)) ∙ ap (λ s. fold scan_after s (drop (front (c ∷ b)).size (c ∷ b))) step.goes) in
     ap is_blank_scan joined ∙ (later ∙ (and-assoc blank _ (are_blank ps) ∙ ap (λ q. blank && are_blank (q ∷ ps)) (sym d.1)))
 
 -- a stream is blank where its parts are

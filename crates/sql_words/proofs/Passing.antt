@@ -1,10 +1,9 @@
 -- What stands open behind the bytes of a part.
-use Rattle.std.proofs.Common.{◌≡◌, ◌<◌, ◌==◌, ◌&&◌, ◌||◌, not, if◌then◌else◌, Bool, true, false, ℕ, zero, suc, ◌+◌, List, [], ◌∷◌, ◌++◌, take, drop, length, fold, Option, Some, None, refl, sym, ap, ◌∙◌, arith}
+use Rattle.std.proofs.Common.{◌≡◌, ◌==◌, ◌&&◌, if◌then◌else◌, Bool, true, false, ℕ, zero, suc, ◌+◌, List, [], ◌∷◌, take, fold, Option, Some, None, refl, ap, arith}
 use Rattle.std.specs.List.{prefix_len}
 use Rattle.std.specs.Option.{option_map}
-use Rattle.std.proofs.lemmas.Bool.{eqb-true}
 use Rattle.sql_words.specs.Division.{size_to, size_to_bracket, begins_with, is_run_byte}
-use Rattle.sql_words.specs.Scanning.{scan_after, ends_scan, begins, continued, spelling_after, level_with, is_blank_scan}
+use Rattle.sql_words.specs.Scanning.{scan_after, ends_scan, begins, continued, spelling_after}
 use Rattle.sql_words.specs.declared.scan.Spelling.{Spelling}
 use Rattle.sql_words.specs.declared.scan.OpenPart.{OpenPart}
 use Rattle.sql_words.specs.declared.scan.OpenPart.TheVariants as o
@@ -51,7 +50,6 @@ size-none (Some m) e = cc
 
 -- a part that one byte closes
 module _ (part : OpenPart) (mark level : ℕ) (blank : Bool) (stays : (c : ℕ) → begins part c ≡ false) (goes : (c : ℕ) → continued part c ≡ (if c == mark then o.Between else part)) where
-
   closing : (c : ℕ) (b : List ℕ) (n : ℕ) (t : Bool) → (c == mark) ≡ t → (if t then Some 1 else option_map (λ n. suc n) (size_to mark b)) ≡ Some n
       → ((m : ℕ) → size_to mark b ≡ Some m → Passes (in_part part level blank) (take m b) (in_part o.Between level blank))
       → Passes (in_part part level blank) (take n (c ∷ b)) (in_part o.Between level blank)
@@ -96,7 +94,6 @@ unfolding continued
 bracket-closes d e = rw e refl
 
 module _ (level : ℕ) (blank : Bool) where
-
   star-next : (c d : ℕ) (b : List ℕ) → ((c == 42) && begins_with 47 (d ∷ b)) ≡ false → (c == 42) ≡ true → (d == 47) ≡ false
   star-next c d b other star = rw star at other
 
@@ -112,7 +109,7 @@ module _ (level : ℕ) (blank : Bool) where
   bracket-closing star c (d ∷ b) n true other e is later =
       let two : n ≡ 2 = cc in let both : ((c == 42) ≡ true) × ((d == 47) ≡ true) = second (c == 42) (d == 47) e in
       rw two (passes-byte (bracket star) level blank c (d ∷ []) _ (bracket-stays star c) (rw (bracket-goes star c other, both.0)
-          (passes-byte o.Asterisk level blank d [] _ (bracket-stays true d) (rw (bracket-closes d both.1) (passes-none _)))))
+      (passes-byte o.Asterisk level blank d [] _ (bracket-stays true d) (rw (bracket-closes d both.1) (passes-none _)))))
     where
       second : (a b : Bool) → (a && b) ≡ true → (a ≡ true) × (b ≡ true)
       second true b h = (refl, h)
@@ -159,7 +156,7 @@ module _ (level : ℕ) (blank : Bool) where
   run-by : (spelling : Spelling) (c : ℕ) (b : List ℕ) (t : Bool) → is_run_byte c ≡ t
       → ((next : Spelling) → Passes (in_part (o.Run next) level blank) (take (prefix_len is_run_byte b) b) (in_part (o.Run (fold spelling_after next (take (prefix_len is_run_byte b) b))) level blank))
       → Passes (in_part (o.Run spelling) level blank) (take (if t then 1 + prefix_len is_run_byte b else 0) (c ∷ b))
-          (in_part (o.Run (fold spelling_after spelling (take (if t then 1 + prefix_len is_run_byte b else 0) (c ∷ b)))) level blank)
+      (in_part (o.Run (fold spelling_after spelling (take (if t then 1 + prefix_len is_run_byte b else 0) (c ∷ b)))) level blank)
   run-by spelling c b true e later = rw (one-plus (prefix_len is_run_byte b)) (passes-byte (o.Run spelling) level blank c _ _ (run-stays spelling c e) (rw (run-goes spelling c) (later (spelling_after spelling c))))
     where
       one-plus : (n : ℕ) → 1 + n ≡ suc n

@@ -24,6 +24,7 @@ fails test (entry ∷ words) text each name = by (bytes_eq entry.0 text) (fails 
     not-true : (a : Bool) → not a ≡ true → a ≡ false
     not-true true h = cc
     not-true false h = refl
+
     by : (b : Bool) → test (lookup words text) ≡ false → test (if b then entry.1 else lookup words text) ≡ false
     by true later = not-true (test entry.1) (left (not (test entry.1)) (list_all (λ e. not (test e.1)) words) each)
     by false later = later

@@ -1,5 +1,5 @@
 -- What stands open behind a byte more, and how high the level is.
-use Rattle.std.proofs.Common.{◌≡◌, ◌≤◌, ◌+◌, Bool, true, false, if◌then◌else◌, ℕ, suc, List, [], ◌∷◌, ◌++◌, length, fold, refl, ap, arith}
+use Rattle.std.proofs.Common.{◌≡◌, ◌≤◌, ◌+◌, Bool, true, false, if◌then◌else◌, ℕ, List, [], ◌∷◌, ◌++◌, length, fold, arith}
 use Rattle.std.proofs.lemmas.Grind.{fold-append}
 use Rattle.sql_words.specs.Scanning.{scan_of, scan_after, begins, level_with, spelled_level}
 use Rattle.sql_words.specs.declared.scan.Spelling.{Spelling}

@@ -4,8 +4,8 @@ use Rattle.std.specs.Char.{to_ascii_uppercase}
 use Rattle.std.specs.Str.{bytes_eq}
 use Rattle.std.proofs.lemmas.Bool.{eqb-true}
 use Rattle.std.proofs.lemmas.Slice.Eq.{bytes_eq-Decides}
-use Rattle.sql_words.specs.Division.{level_after, is_spelled}
-use Rattle.sql_words.specs.Scanning.{letter_after, first_letter, next_letter, spelling_after, spelled_level}
+use Rattle.sql_words.specs.Division.{level_after}
+use Rattle.sql_words.specs.Scanning.{letter_after, next_letter, spelling_after, spelled_level}
 use Rattle.sql_words.specs.declared.scan.Spelling.{Spelling}
 use Rattle.sql_words.specs.declared.scan.Spelling.TheVariants as s
 
@@ -78,6 +78,7 @@ not-other level word other = by (bytes_eq word (codes "BEGIN")) refl (bytes_eq w
   where
     no : (text : List ℕ) → bytes_eq word text ≡ true → (fold letter_after s.Nothing text ≡ s.Other → ⊥) → ⊥
     no text e spelled = spelled (ap (λ w. fold letter_after s.Nothing w) (sym ((bytes_eq-Decides word text).0 e)) ∙ other)
+
     by : (x : Bool) → bytes_eq word (codes "BEGIN") ≡ x → (y : Bool) → bytes_eq word (codes "CASE") ≡ y → (z : Bool) → bytes_eq word (codes "END") ≡ z → level ≡ word_level level word
     by true e y f z g = absurd (no (codes "BEGIN") e (λ h. cc))
     by false e true f z g = absurd (no (codes "CASE") f (λ h. cc))

@@ -1,11 +1,11 @@
 -- A part at the front of what comes, behind other parts.
-use Rattle.std.proofs.Common.{◌≡◌, ◌<◌, ◌≤◌, ◌==◌, ◌&&◌, ◌||◌, not, if◌then◌else◌, Bool, true, false, ℕ, zero, suc, ◌+◌, List, [], ◌∷◌, ◌++◌, take, drop, length, fold, Option, Some, None, refl, sym, ap, ◌∙◌, arith, codes}
-use Rattle.std.specs.List.{prefix_len, list_all}
+use Rattle.std.proofs.Common.{◌≡◌, ◌≤◌, ◌==◌, ◌&&◌, ◌||◌, if◌then◌else◌, Bool, true, false, ℕ, suc, ◌+◌, List, [], ◌∷◌, take, drop, length, fold, Option, Some, None, refl, sym, ap, ◌∙◌, arith, codes}
+use Rattle.std.specs.List.{prefix_len}
 use Rattle.std.specs.Str.{bytes_eq}
 use Rattle.std.proofs.lemmas.Bool.{eqb-true}
 use Rattle.std.proofs.Math.Seq.{take-length}
 use Rattle.std.proofs.Math.ListN.{drop_of_length-le}
-use Rattle.sql_words.specs.Division.{Form, Literal, QuotedName, SimpleComment, BracketedComment, Unclosed, Run, Other, Extent, delimited, simple_comment, bracketed_comment, size_to, size_to_bracket, front, begins_with, is_run_byte, is_space, is_blank_part, level_past, level_after, ends_statement}
+use Rattle.sql_words.specs.Division.{Form, Literal, QuotedName, SimpleComment, BracketedComment, Unclosed, Run, Other, Extent, delimited, size_to, size_to_bracket, front, begins_with, is_run_byte, is_space, is_blank_part, level_past, ends_statement}
 use Rattle.sql_words.specs.Scanning.{scan_after, ends_scan, begins, begun, continued, spelling_after, level_with, is_blank_scan, may_be_blank}
 use Rattle.sql_words.specs.declared.scan.Spelling.{Spelling}
 use Rattle.sql_words.specs.declared.scan.Spelling.TheVariants as s

@@ -1,6 +1,5 @@
 -- A stream that comes in pieces has the same texts and the same rest.
 use Rattle.std.proofs.Common.{◌≡◌, true, false, if◌then◌else◌, ℕ, List, [], ◌∷◌, ◌++◌, refl, ap, sym, ◌∙◌, append_assoc, append-nil, length, ◌<◌}
-use Rattle.std.proofs.lemmas.Grind.{fold-append}
 use Rattle.sql_words.specs.Stream.{ends, texts_from, rest_from, Fits}
 
 pub texts_from-append : (held b more : List ℕ) → texts_from held (b ++ more) ≡ texts_from held b ++ texts_from (rest_from held b) more

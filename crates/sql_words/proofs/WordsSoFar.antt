@@ -1,5 +1,5 @@
 -- The words of a text, read token by token.
-use Rattle.std.proofs.Common.{◌≡◌, ◌<◌, ◌≤◌, List, [], ◌∷◌, ◌++◌, ℕ, ◌+◌, ◌-◌, zero, suc, true, false, Some, None, Option, Result, Ok, Err, length, take, drop, get_or, arith, refl, ap, sym, ◌∙◌, append_assoc, append-nil, add-zero}
+use Rattle.std.proofs.Common.{◌≡◌, ◌<◌, ◌≤◌, List, [], ◌∷◌, ◌++◌, ℕ, ◌+◌, ◌-◌, zero, suc, Some, None, Result, Ok, Err, length, take, drop, get_or, arith, refl, ap, sym, ◌∙◌, append_assoc, append-nil, add-zero}
 use Rattle.std.proofs.lemmas.List.{drop-drop, drop_more, take_rest}
 use Rattle.std.proofs.Math.ListN.{drop_of_length-le}
 use Rattle.sql_words.specs.Tokens.{IsToken}
@@ -19,7 +19,7 @@ shift : (at skip : ℕ) → (at + 1) + skip ≡ at + suc skip
 shift at skip = omega arith
 
 -- what belongs to what stands before is passed over
-words_from-skip : (skip at : ℕ) (b : List ℕ) → words_from skip at b ≡ words_from zero (at + skip) (drop skip b)
+pub words_from-skip : (skip at : ℕ) (b : List ℕ) → words_from skip at b ≡ words_from zero (at + skip) (drop skip b)
 words_from-skip zero at [] = refl
 words_from-skip (suc skip) at [] = refl
 words_from-skip zero at (c ∷ b) = ap (λ n. words_from zero n (c ∷ b)) (sym (add-zero at))

@@ -1,19 +1,19 @@
 -- The division of a stream of bytes into lexical parts, and of its parts into statements.
 use Rattle.std.specs.Prelude.{◌≡◌, Bool, true, false, ◌==◌, ◌&&◌, ◌||◌, if◌then◌else◌, ℕ, suc, ◌+◌, ◌-◌, List, [], ◌∷◌, ◌++◌, take, drop, map, length, codes, Option, Some, None}
 use Rattle.std.specs.Char.{is_ascii_alphanumeric, to_ascii_uppercase}
-use Rattle.std.specs.List.{prefix_len, list_all, flat_map}
+use Rattle.std.specs.List.{prefix_len, list_all}
 use Rattle.std.specs.Option.{option_map}
 use Rattle.std.specs.Str.{bytes_eq}
 
--- what a part is; one that its end cuts off reaches to the end of the stream
+-- what a part is; one that isn't closed reaches to the end of the stream
 pub data Form : Type 0 where
-  Literal : Form           -- '..'
-  QuotedName : Form        -- ".."
-  SimpleComment : Form     -- -- up to and with the line feed, or to the end
+  Literal : Form  -- '..'
+  QuotedName : Form  -- ".."
+  SimpleComment : Form  -- -- up to and with the line feed, or to the end
   BracketedComment : Form  -- /*..*/
-  Unclosed : Form          -- a literal, a quoted name or a bracketed comment that isn't closed
-  Run : Form               -- letters, digits and underscores, as many as stand together
-  Other : Form             -- any other byte
+  Unclosed : Form  -- a literal, a quoted name or a bracketed comment that isn't closed
+  Run : Form  -- letters, digits and underscores, as many as stand together
+  Other : Form  -- any other byte
 
 pub record Part : Type 0 where
   pub form : Form

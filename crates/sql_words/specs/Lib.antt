@@ -8,6 +8,7 @@ pub mod Words
 pub mod Tokens
 pub mod Failing
 pub mod Keywords
+pub mod WordForms
 pub mod Kinds
 pub mod KeywordLaws
 pub mod Sections

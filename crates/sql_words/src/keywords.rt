@@ -95,12 +95,8 @@ pub static KEYWORDS: [&[(&[u8], Kind)]; 26] = [
         (b"INVOKER", Kind::Invoker),
         (b"IS", Kind::Is),
     ],
-    &[
-        (b"JOIN", Kind::Join),
-    ],
-    &[
-        (b"KEY", Kind::Key),
-    ],
+    &[(b"JOIN", Kind::Join)],
+    &[(b"KEY", Kind::Key)],
     &[
         (b"LANGUAGE", Kind::Language),
         (b"LIKE", Kind::Like),

@@ -183,7 +183,10 @@ pub enum Kind {
 }
 
 // One of these tables of keywords.
-fn section(sections: &[&'static [(&'static [u8], Kind)]], index: usize) -> &'static [(&'static [u8], Kind)]
+fn section(
+    sections: &[&'static [(&'static [u8], Kind)]],
+    index: usize,
+) -> &'static [(&'static [u8], Kind)]
     requires { index < length sections.now }
     ensures { map (λ entry. (entry.0.now, entry.1)) result.now ≡ slice_index_or (table.sections_of sections.now) index [] }
 {

@@ -2,6 +2,7 @@
 
 ghost use Rattle.sql_words.specs.KeywordLaws as keywords;
 ghost use Rattle.sql_words.specs.StreamLaws as law;
+ghost use Rattle.sql_words.specs.WordForms as words;
 
 /// A stream has a division into parts, and no other, and the parts are the stream.
 ///
@@ -10,25 +11,33 @@ ghost use Rattle.sql_words.specs.StreamLaws as law;
 pub fn each_stream_has_one_division()
     ensures division { law.EachStreamHasOneDivision }
     ensures parts { law.PartsJoinToTheStream }
-{
-}
+{}
 
 /// The texts of a stream and its rest are those of its parts, and it is blank where each of them is.
 pub fn texts_are_those_of_the_parts()
     ensures texts { law.TextsAreThoseOfTheParts }
     ensures blank { law.BlankByParts }
-{
-}
+{}
 
 /// Where a stream goes on, its texts and its rest go on from its rest so far.
 pub fn pieces_compose()
     ensures { law.PiecesCompose }
-{
-}
+{}
 
 /// A plain word has the kind of a reserved word exactly where it is one of SQL:2003's in this profile, and stands for a name
 /// exactly where it isn't.
 pub fn reserved_words_are_no_names()
     ensures { keywords.ReservedWordsAreNoNames }
-{
-}
+{}
+
+/// The bytes of a token spell its word, and each word of a text is one that its form allows: a plain word has 1 to 128
+/// letters in upper case, digits and underscores, a quoted name 1 to 128 bytes of UTF-8, a literal UTF-8, a number at most 38 digits.
+pub fn tokens_spell_their_words()
+    ensures tokens { words.TokensSpellTheirWords }
+    ensures texts { words.TextsHaveWords }
+{}
+
+/// Words that are spelled out, each with a space behind it, are the words of that text.
+pub fn spelled_words_are_read()
+    ensures { words.SpelledWordsAreRead }
+{}

@@ -13,7 +13,7 @@ mod word;
 pub use kind::{Kind, is_name, is_reserved, kind_of, same_kind, text_of};
 pub use laws::{
     each_stream_has_one_division, pieces_compose, reserved_words_are_no_names,
-    texts_are_those_of_the_parts,
+    spelled_words_are_read, texts_are_those_of_the_parts, tokens_spell_their_words,
 };
 pub use reading::{WordsError, words};
 pub use splitter::{Fed, MOST_BYTES, Splitter};

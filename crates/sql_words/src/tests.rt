@@ -96,12 +96,18 @@ fn a_text_has_its_words(rt: HostRuntime) -> Result<(), Fail> {
         (b"a/*b;*/c", "A C"),
         (b"a/*/b", "bad at 1"),
         (b"a/b", "A Solidus B"),
-        (b"<=>=||", "LessThanOrEquals GreaterThanOrEquals Concatenation"),
+        (
+            b"<=>=||",
+            "LessThanOrEquals GreaterThanOrEquals Concatenation",
+        ),
         (b"a|b", "bad at 1"),
         (b"- -5", "MinusSign MinusSign #5"),
         (b"begin_x 'it;'", "BEGIN_X 'it;'"),
         (b"_a", "bad at 0"),
-        (b"(a,b.c);=<>*+", "LeftParen A Comma B Period C RightParen Semicolon Equals NotEquals Asterisk PlusSign"),
+        (
+            b"(a,b.c);=<>*+",
+            "LeftParen A Comma B Period C RightParen Semicolon Equals NotEquals Asterisk PlusSign",
+        ),
         (b"\t\r\n\x0b\x0c x", "X"),
         (b"", ""),
     ];
@@ -115,9 +121,9 @@ fn a_text_has_its_words(rt: HostRuntime) -> Result<(), Fail> {
 #[test]
 fn a_name_has_at_most_128_bytes(rt: HostRuntime) -> Result<(), Fail> {
     let alloc = rt.alloc();
-    let plain = vec![in alloc; b'a'; 129]?;
+    let plain = letters(alloc, 129)?;
     assert_eq!(rt; read(alloc, &plain)?.as_str(), "bad at 0");
-    assert_eq!(rt; read(alloc, &plain[1..])?.len(), 128);
+    assert_eq!(rt; read(alloc, &letters(alloc, 128)?)?.len(), 128);
     let mut quoted = Vec::from_slice(alloc, b"x \"")?;
     quoted.extend_from_slice(&plain)?;
     quoted.push(b'"')?;
@@ -135,8 +141,14 @@ fn a_stream_is_divided_at_each_cut_alike(rt: HostRuntime) -> Result<(), Fail> {
         (b"a /* b; ' */;", "<a /* b; ' */>blank"),
         (b"a /*/ b; */;", "<a /*/ b; */>blank"),
         (b"a /* **/;", "<a /* **/>blank"),
-        (b"begin a; case b; end; c; eNd; d", "<begin a; case b; end; c; eNd>held"),
-        (b"1BEGIN;BEGIN_X;\"BEGIN\";", "<1BEGIN><BEGIN_X><\"BEGIN\">blank"),
+        (
+            b"begin a; case b; end; c; eNd; d",
+            "<begin a; case b; end; c; eNd>held",
+        ),
+        (
+            b"1BEGIN;BEGIN_X;\"BEGIN\";",
+            "<1BEGIN><BEGIN_X><\"BEGIN\">blank",
+        ),
         (b"END; a-b/c;", "<END>< a-b/c>blank"),
         (b"'it''s;';;", "<'it''s;'><>blank"),
         (b"a;/* x */ -- y", "<a>blank"),
@@ -163,25 +175,64 @@ fn a_stream_is_divided_at_each_cut_alike(rt: HostRuntime) -> Result<(), Fail> {
 #[test]
 fn a_statement_ends_in_a_piece(rt: HostRuntime) -> Result<(), Fail> {
     let mut splitter = Splitter::new(rt.alloc())?;
-    assert_eq!(rt; splitter.feed(b"A;B"), Fed::Statement { used: 2 });
-    assert_eq!(rt; splitter.statement(), b"A".as_slice());
+    match splitter.feed(b"A;B") {
+        Fed::Statement { used } => {
+            assert_eq!(rt; used, 2);
+            assert_eq!(rt; splitter.statement(), b"A".as_slice());
+        }
+        other => assert_eq!(rt; other, Fed::Statement { used: 2 }),
+    }
     assert_eq!(rt; splitter.feed(b"B"), Fed::NeedMore);
     assert_eq!(rt; splitter.blank(), false);
     Ok(())
 }
 
+// So many letters.
+fn letters(alloc: Global, count: usize) -> Result<Vec<u8>, Fail> {
+    Ok(vec![in alloc; b'a'; count]?)
+}
+
 #[test]
 fn a_statement_has_room_for_65_536_bytes(rt: HostRuntime) -> Result<(), Fail> {
-    let alloc = rt.alloc();
-    let most = vec![in alloc; b'a'; 65_536]?;
-    let mut splitter = Splitter::new(alloc)?;
+    let most = letters(rt.alloc(), MOST_BYTES)?;
+    let mut splitter = Splitter::new(rt.alloc())?;
     assert_eq!(rt; splitter.feed(&most), Fed::NeedMore);
     assert_eq!(rt; splitter.feed(b""), Fed::NeedMore);
     assert_eq!(rt; splitter.feed(b";"), Fed::TooLong);
     assert_eq!(rt; splitter.feed(b"b"), Fed::TooLong);
-    let mut other = Splitter::new(alloc)?;
-    assert_eq!(rt; other.feed(&most[1..]), Fed::NeedMore);
-    assert_eq!(rt; other.feed(b";"), Fed::Statement { used: 1 });
-    assert_eq!(rt; other.statement().len(), 65_535);
+    Ok(())
+}
+
+#[test]
+fn a_statement_has_room_for_65_535_bytes_and_its_semicolon(rt: HostRuntime) -> Result<(), Fail> {
+    let nearly = letters(rt.alloc(), MOST_BYTES - 1)?;
+    let mut splitter = Splitter::new(rt.alloc())?;
+    assert_eq!(rt; splitter.feed(&nearly), Fed::NeedMore);
+    assert_eq!(rt; splitter.feed(b";"), Fed::Statement { used: 1 });
+    Ok(())
+}
+
+#[test]
+fn a_keyword_has_its_kind(rt: HostRuntime) -> Result<(), Fail> {
+    let found = words(rt.alloc(), b"Select \"SELECT\" usage alice 'x' 1 <>").unwrap_or(Vec::new(
+        rt.alloc(),
+    ));
+    let wanted = [
+        (Kind::Select, true, false),
+        (Kind::Name, false, true),
+        (Kind::Usage, false, true),
+        (Kind::Name, false, true),
+        (Kind::Literal, false, false),
+        (Kind::Number, false, false),
+        (Kind::NotEquals, false, false),
+    ];
+    assert_eq!(rt; found.len(), wanted.len());
+    for (word, (kind, reserved, name)) in found.iter().zip(wanted) {
+        assert_eq!(rt; kind_of(word), kind);
+        assert_eq!(rt; is_reserved(kind_of(word)), reserved);
+        assert_eq!(rt; is_name(kind_of(word)), name);
+        assert_eq!(rt; same_kind(kind_of(word), Kind::EndOfText), false);
+        assert_eq!(rt; text_of(word).is_empty(), kind == Kind::NotEquals);
+    }
     Ok(())
 }

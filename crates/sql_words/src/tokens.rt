@@ -157,7 +157,7 @@ fn plain_token(alloc: Global, text: &[u8]) -> Result<Found, AllocError>
     }
     let mut letters = Vec::from_slice(alloc, &text[..size])?;
     letters.make_ascii_uppercase();
-    Ok(Some((Word::Plain(Text::from_vec(alloc, letters)), size)))
+    Ok(Some((Word::Plain(Text::from_vec(letters)), size)))
 }
 
 // How many digits stand behind a point at the front.
@@ -228,7 +228,11 @@ fn undoubled(alloc: Global, quote: u8, bytes: &[u8]) -> Result<Vec<u8>, AllocErr
 }
 
 // The text between quotes, of which the first stands just before, and how many bytes it has with both.
-fn quoted_text(alloc: Global, quote: u8, text: &[u8]) -> Result<Option<(Vec<u8>, usize)>, AllocError>
+fn quoted_text(
+    alloc: Global,
+    quote: u8,
+    text: &[u8],
+) -> Result<Option<(Vec<u8>, usize)>, AllocError>
     ensures within { IfOk result (λ found. IfSome found (λ p. (0 < p.1) × (p.1 ≤ length text.now + 1))) }
     ensures text { IfOk result (IsQuoted (spec.quoted_text quote text.now)) }
 {
@@ -250,7 +254,7 @@ fn literal_token(alloc: Global, text: &[u8]) -> Result<Found, AllocError>
     ensures token { IfOk result (IsToken (spec.literal_token text.now)) }
 {
     match quoted_text(alloc, b'\'', text)? {
-        Some((inside, size)) => Ok(Some((Word::Literal(Text::from_vec(alloc, inside)), size))),
+        Some((inside, size)) => Ok(Some((Word::Literal(Text::from_vec(inside)), size))),
         None => Ok(None),
     }
 }
@@ -264,7 +268,7 @@ fn quoted_token(alloc: Global, text: &[u8]) -> Result<Found, AllocError>
             if inside.is_empty() || inside.len() > MOST_NAME_BYTES {
                 Ok(None)
             } else {
-                Ok(Some((Word::Quoted(Text::from_vec(alloc, inside)), size)))
+                Ok(Some((Word::Quoted(Text::from_vec(inside)), size)))
             }
         }
         None => Ok(None),

@@ -1,5 +1,4 @@
-use Rattle.std.proofs.Common.{◌≡◌, [], length, List, ℕ, ◌∙◌, sym, arith, ap}
-
+use Rattle.std.proofs.Common.{◌∙◌, sym, arith}
 use Rattle.sql_words.proofs.Dictionary.{keyword-text, keyword-short}
 use Rattle.sql_words.proofs.kind.keyword.Goals as goal
 

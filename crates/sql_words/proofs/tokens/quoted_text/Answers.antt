@@ -1,4 +1,4 @@
-use Rattle.std.proofs.Common.{◌≡◌, true, false, sym, ◌∙◌}
+use Rattle.std.proofs.Common.{◌≡◌, true, false, sym}
 use Rattle.sql_words.proofs.Quoted.{quoted_text-found, quoted_text-broken, quoted_text-open}
 use Rattle.sql_words.proofs.tokens.quoted_text.Goals as goal
 

@@ -1,0 +1,4 @@
+pub mod Appends
+pub mod Equations
+pub mod Parts
+pub mod ReservedTable
