@@ -88,9 +88,17 @@ fn value(alloc: Global, operand: Operand) -> Result<Expr, AllocError> {
 
 /// `Q.C` with a test.
 fn tested(alloc: Global, tail: Tail) -> Result<Expr, Fail> {
-    let column = Operand::Reference(cell(alloc, "C")?);
     let tail = Boxed::new(alloc, tail)?;
-    Ok(expr_of(alloc, negation(sum(alloc, column), Some(tail)))?)
+    tested_cell(alloc, tail)
+}
+
+fn tested_cell(alloc: Global, tail: Boxed<Tail>) -> Result<Expr, Fail> {
+    let column = cell(alloc, "C")?;
+    Ok(expr_of(alloc, test_of(alloc, column, tail))?)
+}
+
+fn test_of(alloc: Global, column: Reference, tail: Boxed<Tail>) -> Negation {
+    negation(sum(alloc, Operand::Reference(column)), Some(tail))
 }
 
 /// `SELECT Q.C AS N FROM S.T AS Q`
