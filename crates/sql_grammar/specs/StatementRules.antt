@@ -1,0 +1,110 @@
+-- Statements, and the grammar of a statement's words.
+use Rattle.std.specs.Prelude.{◌≡◌, ℕ, Bool, true, false, List, [], ◌∷◌, Option, Some, None}
+use Rattle.sql_tree.specs.declared.column.ObjectName.{ObjectName}
+use Rattle.sql_tree.specs.declared.rights.Grantee.{Grantee}
+use Rattle.sql_tree.specs.declared.rights.Grantor.{Grantor}
+use Rattle.sql_tree.specs.declared.rights.Privileges.{Privileges}
+use Rattle.sql_tree.specs.declared.rights.Target.{Target}
+use Rattle.sql_tree.specs.declared.statement.AlterDomainAction.{AlterDomainAction}
+use Rattle.sql_tree.specs.declared.statement.AlterTableAction.{AlterTableAction}
+use Rattle.sql_tree.specs.declared.statement.Behaviour.{Behaviour}
+use Rattle.sql_tree.specs.declared.statement.DropKind.{DropKind}
+use Rattle.sql_tree.specs.declared.statement.DropKind.TheVariants as drops
+use Rattle.sql_tree.specs.declared.statement.InfoQuery.{InfoQuery}
+use Rattle.sql_tree.specs.declared.statement.RoleChoice.{RoleChoice}
+use Rattle.sql_tree.specs.declared.statement.RoleChoice.TheVariants as choices
+use Rattle.sql_tree.specs.declared.statement.SchemaNameClause.{SchemaNameClause}
+use Rattle.sql_tree.specs.declared.statement.SchemaNameClause.TheVariants as clauses
+use Rattle.sql_tree.specs.declared.statement.Statement.{Statement}
+use Rattle.sql_tree.specs.declared.statement.Statement.TheVariants as statements
+use Rattle.sql_tree.specs.declared.table.TableElement.{TableElement}
+use Rattle.sql_words.specs.declared.kind.Kind.TheVariants as k
+use Rattle.sql_words.specs.declared.word.Word.{Word}
+use Rattle.sql_grammar.specs.Shapes.{Spelled, Token, Separated, Optional}
+use Rattle.sql_grammar.specs.NameRules.{IsIdentifier, IsLiteralName, IsObjectName, IsIdentifiers}
+use Rattle.sql_grammar.specs.RightsRules.{IsBehaviour, IsGrantorAfter, IsGrantedBy, IsGrantee, IsPrivilegesOn, IsWithOption, IsOptionFor}
+use Rattle.sql_grammar.specs.AlterRules.{IsAlterTableAction, IsAlterDomainAction}
+use Rattle.sql_grammar.specs.InformationRules.{IsInfoQuery}
+use Rattle.sql_grammar.specs.TableRules.{IsTableElements}
+
+-- lit | name | NONE
+pub data IsRoleChoice : RoleChoice → List Word → List Word → Type 0 where
+  by_literal : {n : List ℕ} {ws rest : List Word} → IsLiteralName n ws rest → IsRoleChoice (choices.Literal n) ws rest
+  by_name : {n : List ℕ} {ws rest : List Word} → IsIdentifier n ws rest → IsRoleChoice (choices.Identifier n) ws rest
+  no_role : {ws rest : List Word} → Token k.None ws rest → IsRoleChoice choices.NoRole ws rest
+
+-- name [AUTHORIZATION name] | AUTHORIZATION name
+pub data IsSchemaNameClause : SchemaNameClause → List Word → List Word → Type 0 where
+  named : {n : List ℕ} {owner : Option (List ℕ)} {ws a rest : List Word} → IsIdentifier n ws a → Optional k.Authorization IsIdentifier owner a rest
+      → IsSchemaNameClause (clauses.Named n owner) ws rest
+  authorization : {n : List ℕ} {ws a rest : List Word} → Token k.Authorization ws a → IsIdentifier n a rest → IsSchemaNameClause (clauses.Authorization n) ws rest
+
+-- TABLE | VIEW | DOMAIN | ASSERTION | FUNCTION | PROCEDURE | ROUTINE
+pub data IsDropKind : DropKind → List Word → List Word → Type 0 where
+  table : {ws rest : List Word} → Token k.Table ws rest → IsDropKind drops.Table ws rest
+  view : {ws rest : List Word} → Token k.View ws rest → IsDropKind drops.View ws rest
+  domain : {ws rest : List Word} → Token k.Domain ws rest → IsDropKind drops.Domain ws rest
+  assertion : {ws rest : List Word} → Token k.Assertion ws rest → IsDropKind drops.Assertion ws rest
+  function : {ws rest : List Word} → Token k.Function ws rest → IsDropKind drops.Function ws rest
+  procedure : {ws rest : List Word} → Token k.Procedure ws rest → IsDropKind drops.Procedure ws rest
+  routine : {ws rest : List Word} → Token k.Routine ws rest → IsDropKind drops.Routine ws rest
+
+pub data IsStatement : Statement → List Word → List Word → Type 0 where
+  -- CONNECT TO lit [AS lit] USER lit
+  connect : {server user : List ℕ} {connection : Option (List ℕ)} {ws a b c d e rest : List Word} → Token k.Connect ws a → Token k.To a b → IsLiteralName server b c
+      → Optional k.As IsLiteralName connection c d → Token k.User d e → IsLiteralName user e rest
+      → IsStatement (statements.Connect (record { server = server; connection = connection; user = user })) ws rest
+  -- SET CONNECTION lit
+  set_connection : {n : List ℕ} {ws a b rest : List Word} → Token k.Set ws a → Token k.Connection a b → IsLiteralName n b rest → IsStatement (statements.SetConnection n) ws rest
+  -- DISCONNECT lit
+  disconnect : {n : List ℕ} {ws a rest : List Word} → Token k.Disconnect ws a → IsLiteralName n a rest → IsStatement (statements.Disconnect n) ws rest
+  -- SET SCHEMA lit
+  set_schema : {n : List ℕ} {ws a b rest : List Word} → Token k.Set ws a → Token k.Schema a b → IsLiteralName n b rest → IsStatement (statements.SetSchema n) ws rest
+  -- SET ROLE (lit | name | NONE)
+  set_role : {choice : RoleChoice} {ws a b rest : List Word} → Token k.Set ws a → Token k.Role a b → IsRoleChoice choice b rest → IsStatement (statements.SetRole choice) ws rest
+  -- CREATE SCHEMA (name [AUTHORIZATION name] | AUTHORIZATION name)
+  create_schema : {schema : SchemaNameClause} {ws a b rest : List Word} → Token k.Create ws a → Token k.Schema a b → IsSchemaNameClause schema b rest
+      → IsStatement (statements.CreateSchema (record { schema = schema; elements = [] })) ws rest
+  -- CREATE ROLE name [WITH ADMIN (CURRENT_USER | CURRENT_ROLE)]
+  create_role : {role : List ℕ} {admin : Option Grantor} {ws a b c rest : List Word} → Token k.Create ws a → Token k.Role a b → IsIdentifier role b c
+      → Optional k.With (IsGrantorAfter k.Admin) admin c rest → IsStatement (statements.CreateRole (record { role = role; admin = admin })) ws rest
+  -- DROP ROLE name
+  drop_role : {role : List ℕ} {ws a b rest : List Word} → Token k.Drop ws a → Token k.Role a b → IsIdentifier role b rest → IsStatement (statements.DropRole role) ws rest
+  -- CREATE TABLE obj '(' (coldef | tcon),.. ')'
+  create_table : {table : ObjectName} {es : List TableElement} {ws a b c rest : List Word} → Token k.Create ws a → Token k.Table a b → IsObjectName table b c → IsTableElements 63 es c rest
+      → IsStatement (statements.CreateTable (record { table = table; elements = es })) ws rest
+  -- ALTER TABLE obj action
+  alter_table : {table : ObjectName} {action : AlterTableAction} {ws a b c rest : List Word} → Token k.Alter ws a → Token k.Table a b → IsObjectName table b c → IsAlterTableAction action c rest
+      → IsStatement (statements.AlterTable (record { table = table; action = action })) ws rest
+  -- ALTER DOMAIN obj action
+  alter_domain : {domain : ObjectName} {action : AlterDomainAction} {ws a b c rest : List Word} → Token k.Alter ws a → Token k.Domain a b → IsObjectName domain b c → IsAlterDomainAction action c rest
+      → IsStatement (statements.AlterDomain (record { domain = domain; action = action })) ws rest
+  -- DROP SCHEMA name [beh]
+  drop_schema : {schema : List ℕ} {behaviour : Behaviour} {ws a b c rest : List Word} → Token k.Drop ws a → Token k.Schema a b → IsIdentifier schema b c → IsBehaviour behaviour c rest
+      → IsStatement (statements.DropSchema schema behaviour) ws rest
+  -- DROP (TABLE | VIEW | DOMAIN | ASSERTION | FUNCTION | PROCEDURE | ROUTINE) obj [beh]
+  drop_object : {kind : DropKind} {object : ObjectName} {behaviour : Behaviour} {ws a b c rest : List Word} → Token k.Drop ws a → IsDropKind kind a b → IsObjectName object b c
+      → IsBehaviour behaviour c rest → IsStatement (statements.DropObject (record { kind = kind; object = object; behaviour = behaviour })) ws rest
+  -- GRANT privs ON target TO grantee,.. [WITH GRANT OPTION] [by]
+  grant_privileges : {ps : Privileges} {t : Target} {gs : List Grantee} {grantable : Bool} {by : Option Grantor} {ws a b c d e rest : List Word} → Token k.Grant ws a
+      → IsPrivilegesOn ps t a b → Token k.To b c → Separated k.Comma IsGrantee gs c d → IsWithOption k.Grant grantable d e → IsGrantedBy by e rest
+      → IsStatement (statements.GrantPrivileges (record { privileges = ps; target = t; grantees = gs; grant_option = grantable; grantor = by })) ws rest
+  -- REVOKE [GRANT OPTION FOR] privs ON target FROM grantee,.. [by] [beh]
+  revoke_privileges : {ps : Privileges} {t : Target} {gs : List Grantee} {option_alone : Bool} {by : Option Grantor} {behaviour : Behaviour} {ws a b c d e f rest : List Word}
+      → Token k.Revoke ws a → IsOptionFor k.Grant option_alone a b → IsPrivilegesOn ps t b c → Token k.From c d → Separated k.Comma IsGrantee gs d e → IsGrantedBy by e f
+      → IsBehaviour behaviour f rest
+      → IsStatement (statements.RevokePrivileges (record { option_alone = option_alone; privileges = ps; target = t; grantees = gs; grantor = by; behaviour = behaviour })) ws rest
+  -- GRANT name,.. TO name,.. [WITH ADMIN OPTION] [by]
+  grant_roles : {roles gs : List (List ℕ)} {grantable : Bool} {by : Option Grantor} {ws a b c d e rest : List Word} → Token k.Grant ws a → IsIdentifiers roles a b
+      → Token k.To b c → IsIdentifiers gs c d → IsWithOption k.Admin grantable d e → IsGrantedBy by e rest
+      → IsStatement (statements.GrantRoles (record { roles = roles; grantees = gs; admin_option = grantable; grantor = by })) ws rest
+  -- REVOKE [ADMIN OPTION FOR] name,.. FROM name,.. [by] [beh]
+  revoke_roles : {roles gs : List (List ℕ)} {option_alone : Bool} {by : Option Grantor} {behaviour : Behaviour} {ws a b c d e f rest : List Word} → Token k.Revoke ws a
+      → IsOptionFor k.Admin option_alone a b → IsIdentifiers roles b c → Token k.From c d → IsIdentifiers gs d e → IsGrantedBy by e f → IsBehaviour behaviour f rest
+      → IsStatement (statements.RevokeRoles (record { option_alone = option_alone; roles = roles; grantees = gs; grantor = by; behaviour = behaviour })) ws rest
+  -- SELECT ('*' | name,..) FROM INFORMATION_SCHEMA . name [WHERE test {AND test}]
+  select : {query : InfoQuery} {ws rest : List Word} → IsInfoQuery query ws rest → IsStatement (statements.Select query) ws rest
+
+-- the words are those of the statement
+abbrev pub Grammar : List Word → Statement → Type 0
+Grammar words s = IsStatement s words []
