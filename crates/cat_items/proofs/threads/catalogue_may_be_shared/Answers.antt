@@ -1,0 +1,10 @@
+use denote.Param.Send.{sendable}
+use Rattle.std.proofs.Crossing.{crosses, frees}
+use Rattle.cat_items.proofs.Sends.{item_send, item_sync}
+use Rattle.cat_items.proofs.threads.catalogue_may_be_shared.Goals as goal
+
+pub may_be_shared-requires-send-T : goal.may_be_shared-requires-send-T
+may_be_shared-requires-send-T c κs = search (item_send, item_sync, crosses, frees, sendable) depth 30 fits 100000
+
+pub may_be_shared-requires-sync-T : goal.may_be_shared-requires-sync-T
+may_be_shared-requires-sync-T c κs = search (item_send, item_sync, crosses, frees, sendable) depth 30 fits 100000

@@ -1,0 +1,34 @@
+//! Descriptors of SQL objects and rights, and the catalogue that keeps them in order.
+#![tactic(auto)]
+
+mod batch;
+mod catalogue;
+mod copies;
+mod edit;
+mod item;
+mod limits;
+mod marks;
+mod need;
+mod room;
+mod row;
+mod sameness;
+mod shared;
+#[cfg(test)]
+mod tests;
+mod texts;
+mod threads;
+
+pub use catalogue::{Catalogue, compare_items, find, owner_of};
+pub use edit::{Edit, EditError, Refusal, Who};
+pub use item::{
+    Assertion, Check, Column, Domain, DomainCheck, Foreign, Item, Key, Right, RoleGrant, Routine,
+    Schema, View,
+};
+pub use limits::Limits;
+pub use marks::Marks;
+pub use need::{Auth, Need};
+pub use row::{Cell, Row};
+pub use sameness::same_item;
+pub use shared::Shared;
+pub use texts::{item_text, need_text};
+pub use threads::{catalogue_may_be_shared, item_may_be_shared};
