@@ -2,7 +2,7 @@
 use Rattle.std.specs.Prelude.{◌≡◌, Bool, not, ◌&&◌, IsTrue, ℕ, List, [], ◌∷◌, codes, Ok}
 use Rattle.std.specs.Str.{bytes_eq}
 use Rattle.sql_tree.specs.Names.{IsName}
-use Rattle.sql_tree.specs.Reserved.{is_reserved}
+use Rattle.sql_text.specs.Reserved.{is_reserved}
 use Rattle.ddl_service.specs.declared.statement.Statement.{Statement}
 use Rattle.ddl_service.specs.declared.statement.Statement.TheVariants.{Connect, CreateSchema}
 use Rattle.sql_words.specs.Words.{words_of}

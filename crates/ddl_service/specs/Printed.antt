@@ -1,6 +1,6 @@
 -- What is written for a reply.
 use Rattle.std.specs.Prelude.{◌==◌, if◌then◌else◌, ℕ, List, [], ◌∷◌, ◌++◌, codes, flat_map}
-use Rattle.sql_tree.specs.Texts.{name_text}
+use Rattle.sql_text.specs.Texts.{name_text}
 use Rattle.ddl_service.specs.declared.reply.Reply.{Reply}
 use Rattle.ddl_service.specs.declared.reply.Reply.TheVariants.{Ok, Refused, OutOfMemory}
 use Rattle.ddl_service.specs.declared.reply.Refusal.{Refusal}

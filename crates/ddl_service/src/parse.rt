@@ -6,7 +6,8 @@ ghost use Rattle.ddl_service.specs.Grammar as grammar;
 ghost use Rattle.ddl_service.specs.declared.statement.Statement.{Statement};
 
 use crate::statement::Statement;
-use sql_tree::{Name, is_reserved};
+use sql_text::is_reserved;
+use sql_tree::Name;
 use sql_words::{Word, WordsError, words};
 use std::alloc::{AllocError, Global};
 

@@ -1,16 +1,16 @@
 ghost use Rattle.std.specs.Prelude.{◌≡◌, [], ◌∷◌, ◌++◌, codes};
-ghost use Rattle.sql_tree.specs.Texts as texts;
+ghost use Rattle.sql_text.specs.Texts as texts;
 ghost use Rattle.svc_io.specs.Bytes.{Puts};
 ghost use Rattle.svc_io.specs.Faults.{HasCause};
 ghost use Rattle.ddl_service.specs.Printed as printed;
 
 use crate::regular::are_regular;
 use crate::reply::{Refusal, Reply};
-use sql_tree::is_reserved;
+use sql_text::is_reserved;
 use svc_io::{Failed, Sink, put_all};
 
 // Whether a name stands without quotes.
-#[tactic(auto, unfolding(sql_tree::specs::Texts::is_bare))]
+#[tactic(auto, unfolding(sql_text::specs::Texts::is_bare))]
 fn is_bare(name: &[u8]) -> bool
     ensures { result ≡ texts.is_bare name.now }
 {
@@ -50,7 +50,7 @@ fn write_quoted<W: Sink>(sink: &mut W, name: &[u8]) -> Result<(), Failed>
     put_all(sink, b"\"")
 }
 
-#[tactic(auto, unfolding(sql_tree::specs::Texts::name_text))]
+#[tactic(auto, unfolding(sql_text::specs::Texts::name_text))]
 fn write_name<W: Sink>(sink: &mut W, name: &[u8]) -> Result<(), Failed>
     ensures bytes { Puts (W.given sink.old) (texts.name_text name.now) (W.given sink.new) result }
     ensures cause { HasCause (W.faults sink.old) (W.faults sink.new) result }

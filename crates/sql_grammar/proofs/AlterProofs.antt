@@ -6,16 +6,16 @@ use Rattle.sql_words.specs.Kinds.{is_name, same_kind}
 use Rattle.sql_words.specs.declared.word.Word.{Word}
 use Rattle.sql_words.specs.declared.kind.Kind.{Kind}
 use Rattle.sql_words.specs.declared.kind.Kind.TheVariants as k
-use Rattle.sql_grammar.specs.Reading.{peek, next, sees, after}
-use Rattle.sql_grammar.specs.Shapes.{Token, Marked, absent, present}
+use Rattle.sql_phrases.specs.Reading.{peek, next, sees, after}
+use Rattle.sql_phrases.specs.Shapes.{Token, Marked, absent, present}
 use Rattle.sql_grammar.specs.AlterRules.{IsColumnName, column_name, IsAlterTableAction, add_column, add_constraint, set_default, drop_default, drop_column, drop_constraint, IsAlterDomainAction, set_domain_default, drop_domain_default, drop_domain_constraint}
 use Rattle.sql_grammar.specs.AlterParsers as parse
-use Rattle.sql_grammar.specs.NameParsers.{sees_name}
-use Rattle.sql_grammar.proofs.Follow.{follows, continues, Below, below_more, sees_differs, sees_other}
-use Rattle.sql_grammar.proofs.Lists.{Gives, gives_if, gives_some, gives_then, gives_weaker, after_not, gives_eat, gives_ate, gives_expect, expect_at, sees_at, after_at, peek_at}
-use Rattle.sql_grammar.proofs.NameProofs.{identifier_at, gives_identifier, identifier_never}
+use Rattle.sql_phrases.specs.NameParsers.{sees_name}
+use Rattle.sql_phrases.proofs.Follow.{follows, continues, Below, below_more, sees_differs, sees_other}
+use Rattle.sql_phrases.proofs.Lists.{Gives, gives_if, gives_some, gives_then, gives_weaker, after_not, gives_eat, gives_ate, gives_expect, expect_at, sees_at, after_at, peek_at}
+use Rattle.sql_phrases.proofs.NameProofs.{identifier_at, gives_identifier, identifier_never}
 use Rattle.sql_grammar.proofs.RightsProofs.{behaviour_at, gives_behaviour}
-use Rattle.sql_grammar.proofs.TypeProofs.{default_at, gives_default}
+use Rattle.sql_phrases.proofs.TypeProofs.{default_at, gives_default}
 use Rattle.sql_grammar.proofs.TableProofs.{column_definition_at, gives_column_definition, column_definition_begins, table_constraint_at, gives_table_constraint, table_constraint_begins, table_constraint_reserved, begins_named}
 
 column_name_at : {c : List ℕ} {ws rest : List Word} → IsColumnName c ws rest → parse.column_name ws ≡ Some (c, rest)

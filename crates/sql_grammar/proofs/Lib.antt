@@ -1,12 +1,5 @@
-pub mod Follow
-pub mod Lists
-pub mod NameTexts
-pub mod Numbers
-pub mod TypeProofs
 pub mod InformationProofs
 pub mod AlterProofs
 pub mod TableProofs
-pub mod Turns
-pub mod NameProofs
 pub mod RightsProofs
 pub mod StatementProofs

@@ -12,22 +12,22 @@ use Rattle.sql_words.specs.Kinds.{kind_of, is_name, same_kind}
 use Rattle.sql_words.specs.declared.word.Word.{Word}
 use Rattle.sql_words.specs.declared.kind.Kind.{Kind}
 use Rattle.sql_words.specs.declared.kind.Kind.TheVariants as k
-use Rattle.sql_grammar.specs.Reading.{peek, next, sees, after}
-use Rattle.sql_grammar.specs.Shapes.{Spelled, Token, token, Separated, Optional}
-use Rattle.sql_grammar.specs.NameRules.{IsIdentifier, IsLiteralName, IsObjectName, IsIdentifiers}
+use Rattle.sql_phrases.specs.Reading.{peek, next, sees, after}
+use Rattle.sql_phrases.specs.Shapes.{Spelled, Token, token, Separated, Optional}
+use Rattle.sql_phrases.specs.NameRules.{IsIdentifier, IsLiteralName, IsObjectName, IsIdentifiers}
 use Rattle.sql_grammar.specs.RightsRules.{IsBehaviour, IsGrantorAfter, IsGrantedBy, IsGrantee, IsPrivilegesOn, IsWithOption, IsOptionFor, whole, option_for}
 use Rattle.sql_grammar.specs.StatementRules.{IsRoleChoice, by_literal, by_name, no_role, IsSchemaNameClause, named, authorization, IsDropKind, table, view, domain, assertion, function, procedure, routine, IsStatement, connect, set_connection, disconnect, set_schema, set_role, create_schema, create_role, create_table, alter_table, alter_domain, select, drop_role, drop_schema, drop_object, grant_privileges, revoke_privileges, grant_roles, revoke_roles}
-use Rattle.sql_grammar.specs.declared.error.GrammarError.{GrammarError}
-use Rattle.sql_grammar.specs.declared.error.GrammarError.TheVariants.{Syntax, NotInProfile, Memory}
-use Rattle.sql_grammar.specs.Parsers.{Reads, separated}
-use Rattle.sql_grammar.specs.NameParsers as names
+use Rattle.sql_phrases.specs.declared.error.GrammarError.{GrammarError}
+use Rattle.sql_phrases.specs.declared.error.GrammarError.TheVariants.{Syntax, NotInProfile, Memory}
+use Rattle.sql_phrases.specs.Parsers.{Reads, separated}
+use Rattle.sql_phrases.specs.NameParsers as names
 use Rattle.sql_grammar.specs.RightsParsers as rights
 use Rattle.sql_grammar.specs.RightsParsers.{names_then}
 use Rattle.sql_grammar.specs.StatementParsers as parse
 use Rattle.sql_grammar.specs.StatementParsers.{sees_admin_option}
-use Rattle.sql_grammar.proofs.Follow.{follows, continues, Below, below_more, passes, sees_is, sees_other}
-use Rattle.sql_grammar.proofs.Lists.{Gives, gives_none, gives_some, gives_then, gives_if, after_not, token_next, token_seen, gives_eat, gives_expect, expect_at, sees_at, after_at, next_at, peek_at, below_token, Parses, optional_complete, optional_sound}
-use Rattle.sql_grammar.proofs.NameProofs.{identifier_at, gives_identifier, identifier_never, literal_name_at, gives_literal_name, literal_name_begins, object_name_at, gives_object_name, identifiers_parse}
+use Rattle.sql_phrases.proofs.Follow.{follows, continues, Below, below_more, passes, sees_is, sees_other}
+use Rattle.sql_phrases.proofs.Lists.{Gives, gives_none, gives_some, gives_then, gives_if, after_not, token_next, token_seen, gives_eat, gives_expect, expect_at, sees_at, after_at, next_at, peek_at, below_token, Parses, optional_complete, optional_sound}
+use Rattle.sql_phrases.proofs.NameProofs.{identifier_at, gives_identifier, identifier_never, literal_name_at, gives_literal_name, literal_name_begins, object_name_at, gives_object_name, identifiers_parse}
 use Rattle.sql_grammar.proofs.RightsProofs.{behaviour_at, gives_behaviour, behaviour_below, grantor_after_at, gives_grantor_after, granted_by_at, gives_granted_by, granted_by_below, grantees_parse, privileges_on_at, gives_privileges_on, privileges_on_never, privileges_on_then, with_option_at, gives_with_option, with_option_below, option_for_at, gives_option_for, names_then_no, roles_then}
 use Rattle.sql_grammar.proofs.AlterProofs.{alter_table_action_at, gives_alter_table_action, alter_table_action_begins, alter_domain_action_at, gives_alter_domain_action, alter_domain_action_begins}
 use Rattle.sql_grammar.proofs.TableProofs.{table_elements_at, gives_table_elements, table_elements_begin}

@@ -18,21 +18,21 @@ use Rattle.sql_words.specs.Kinds.{is_name, same_kind}
 use Rattle.sql_words.specs.declared.word.Word.{Word}
 use Rattle.sql_words.specs.declared.kind.Kind.{Kind}
 use Rattle.sql_words.specs.declared.kind.Kind.TheVariants as k
-use Rattle.sql_grammar.specs.Reading.{peek, next, sees, after}
-use Rattle.sql_grammar.specs.Shapes.{Token, Spells, Separated, Repeated, Optional, left_out, said, Marked, absent, present}
-use Rattle.sql_grammar.specs.NameRules.{IsIdentifier, IsObjectName, IsIdentifiers, IsColumns, no_columns, columns}
-use Rattle.sql_grammar.specs.NameParsers.{sees_name}
-use Rattle.sql_grammar.specs.NameParsers as names
-use Rattle.sql_grammar.specs.TypeRules as types
-use Rattle.sql_grammar.specs.TypeRules.{IsType, IsDefault, IsSpecial, IsNumber, IsBracketed, IsSize, IsPrecision}
+use Rattle.sql_phrases.specs.Reading.{peek, next, sees, after}
+use Rattle.sql_phrases.specs.Shapes.{Token, Spells, Separated, Repeated, Optional, left_out, said, Marked, absent, present}
+use Rattle.sql_phrases.specs.NameRules.{IsIdentifier, IsObjectName, IsIdentifiers, IsColumns, no_columns, columns}
+use Rattle.sql_phrases.specs.NameParsers.{sees_name}
+use Rattle.sql_phrases.specs.NameParsers as names
+use Rattle.sql_phrases.specs.TypeRules as types
+use Rattle.sql_phrases.specs.TypeRules.{IsType, IsDefault, IsSpecial, IsNumber, IsBracketed, IsSize, IsPrecision}
 use Rattle.sql_grammar.specs.TableRules.{IsRule, cascade, set_null, set_default, restrict, no_action, IsRules, no_rules, on_delete, on_update, on_delete_update, on_update_delete, IsMatching, no_match, simple, full, partial, IsReferences, references, IsColumnConstraint, primary_key, unique, refers, IsColumnOption, default_option, not_null, constraint, has_one_default, IsColumnType, of_type, of_domain, IsColumnDefinition, column_definition, IsColumnList, column_list, IsTableConstraintKind, primary_key_of, unique_of, foreign_key_of, IsTableConstraint, table_constraint, IsTableElement, column, table_constraint_element, IsTableElements, table_elements}
-use Rattle.sql_grammar.specs.Parsers.{separated, repeated}
+use Rattle.sql_phrases.specs.Parsers.{separated, repeated}
 use Rattle.sql_grammar.specs.TableParsers as parse
 use Rattle.sql_grammar.specs.TableParsers.{begins_option}
-use Rattle.sql_grammar.proofs.Follow.{follows, continues, Below, below_more, passes, sees_differs, sees_other}
-use Rattle.sql_grammar.proofs.Lists.{Gives, gives_none, gives_some, gives_then, gives_weaker, gives_if, after_not, token_next, gives_eat, gives_expect, expect_at, sees_at, after_at, next_at, peek_at, below_token, shorter_token, shorter_spelled, Parses, separated_parses, repeated_complete, repeated_sound, repeated_shorter, below_repeated, optional_complete, optional_sound}
-use Rattle.sql_grammar.proofs.NameProofs.{identifier_at, gives_identifier, identifier_begins, identifier_shorter, object_name_at, gives_object_name, object_name_begins, object_name_shorter, identifiers_parse, columns_at, gives_columns, columns_shorter}
-use Rattle.sql_grammar.proofs.TypeProofs.{type_at, gives_type, default_at, gives_default}
+use Rattle.sql_phrases.proofs.Follow.{follows, continues, Below, below_more, passes, sees_differs, sees_other}
+use Rattle.sql_phrases.proofs.Lists.{Gives, gives_none, gives_some, gives_then, gives_weaker, gives_if, after_not, token_next, gives_eat, gives_expect, expect_at, sees_at, after_at, next_at, peek_at, below_token, shorter_token, shorter_spelled, Parses, separated_parses, repeated_complete, repeated_sound, repeated_shorter, below_repeated, optional_complete, optional_sound}
+use Rattle.sql_phrases.proofs.NameProofs.{identifier_at, gives_identifier, identifier_begins, identifier_shorter, object_name_at, gives_object_name, object_name_begins, object_name_shorter, identifiers_parse, columns_at, gives_columns, columns_shorter}
+use Rattle.sql_phrases.proofs.TypeProofs.{type_at, gives_type, default_at, gives_default}
 
 -- ---- lengths
 

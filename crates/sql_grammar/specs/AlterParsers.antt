@@ -7,10 +7,10 @@ use Rattle.sql_tree.specs.declared.statement.AlterTableAction.{AlterTableAction}
 use Rattle.sql_tree.specs.declared.statement.AlterTableAction.TheVariants as tables
 use Rattle.sql_words.specs.declared.kind.Kind.TheVariants as k
 use Rattle.sql_words.specs.declared.word.Word.{Word}
-use Rattle.sql_grammar.specs.Parsers.{Outcome, Parser, and_then, ◌>>=◌, ◌>>◌, ◌<$>◌, pure, refuse, skip, eat, expect}
-use Rattle.sql_grammar.specs.NameParsers.{identifier, sees_name}
+use Rattle.sql_phrases.specs.Parsers.{Outcome, Parser, and_then, ◌>>=◌, ◌>>◌, ◌<$>◌, pure, refuse, skip, eat, expect}
+use Rattle.sql_phrases.specs.NameParsers.{identifier, sees_name}
 use Rattle.sql_grammar.specs.RightsParsers.{behaviour}
-use Rattle.sql_grammar.specs.TypeParsers as types
+use Rattle.sql_phrases.specs.TypeParsers as types
 use Rattle.sql_grammar.specs.TableParsers.{column_definition, table_constraint}
 
 unfoldable pub column_name : Parser (List ℕ)

@@ -10,10 +10,10 @@ use Rattle.sql_tree.specs.declared.table.ColumnDefinition.{ColumnDefinition}
 use Rattle.sql_tree.specs.declared.table.TableConstraint.{TableConstraint}
 use Rattle.sql_words.specs.declared.kind.Kind.TheVariants as k
 use Rattle.sql_words.specs.declared.word.Word.{Word}
-use Rattle.sql_grammar.specs.Shapes.{Token, Marked}
-use Rattle.sql_grammar.specs.NameRules.{IsIdentifier}
+use Rattle.sql_phrases.specs.Shapes.{Token, Marked}
+use Rattle.sql_phrases.specs.NameRules.{IsIdentifier}
 use Rattle.sql_grammar.specs.RightsRules.{IsBehaviour}
-use Rattle.sql_grammar.specs.TypeRules.{IsDefault}
+use Rattle.sql_phrases.specs.TypeRules.{IsDefault}
 use Rattle.sql_grammar.specs.TableRules.{IsColumnDefinition, IsTableConstraint}
 
 -- [COLUMN] name

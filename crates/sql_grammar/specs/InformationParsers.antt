@@ -9,9 +9,9 @@ use Rattle.sql_tree.specs.declared.statement.InfoValue.{InfoValue}
 use Rattle.sql_tree.specs.declared.statement.InfoValue.TheVariants as values
 use Rattle.sql_words.specs.declared.kind.Kind.TheVariants as k
 use Rattle.sql_words.specs.declared.word.Word.{Word}
-use Rattle.sql_grammar.specs.Reading.{sees}
-use Rattle.sql_grammar.specs.Parsers.{Outcome, Parser, and_then, ◌>>=◌, ◌>>◌, ◌<$>◌, pure, refuse, skip, eat, expect, text, separated}
-use Rattle.sql_grammar.specs.NameParsers.{identifier, identifiers}
+use Rattle.sql_phrases.specs.Reading.{sees}
+use Rattle.sql_phrases.specs.Parsers.{Outcome, Parser, and_then, ◌>>=◌, ◌>>◌, ◌<$>◌, pure, refuse, skip, eat, expect, text, separated}
+use Rattle.sql_phrases.specs.NameParsers.{identifier, identifiers}
 
 unfoldable pub info_value : Parser InfoValue
 info_value = λ ws. if sees k.Literal ws then (values.Literal <$> text k.Literal) ws else (values.Number <$> text k.Number) ws

@@ -9,8 +9,8 @@ use Rattle.sql_tree.specs.declared.statement.InfoValue.{InfoValue}
 use Rattle.sql_tree.specs.declared.statement.InfoValue.TheVariants as values
 use Rattle.sql_words.specs.declared.kind.Kind.TheVariants as k
 use Rattle.sql_words.specs.declared.word.Word.{Word}
-use Rattle.sql_grammar.specs.Shapes.{Token, Spells, Separated}
-use Rattle.sql_grammar.specs.NameRules.{IsIdentifier, IsIdentifiers}
+use Rattle.sql_phrases.specs.Shapes.{Token, Spells, Separated}
+use Rattle.sql_phrases.specs.NameRules.{IsIdentifier, IsIdentifiers}
 
 -- lit | Number
 pub data IsInfoValue : InfoValue → List Word → List Word → Type 0 where

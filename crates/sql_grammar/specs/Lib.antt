@@ -1,15 +1,8 @@
-pub mod Reading
-pub mod Shapes
-pub mod NameRules
 pub mod RightsRules
 pub mod StatementRules
 pub mod Profile
-pub mod Parsers
-pub mod NameParsers
 pub mod RightsParsers
 pub mod StatementParsers
-pub mod TypeRules
-pub mod TypeParsers
 pub mod TableRules
 pub mod TableParsers
 pub mod AlterRules

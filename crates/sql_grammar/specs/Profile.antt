@@ -3,7 +3,7 @@ use Rattle.std.specs.Prelude.{Bool, true, false, List, IsTrue}
 use Rattle.sql_words.specs.declared.kind.Kind.{Kind}
 use Rattle.sql_words.specs.declared.kind.Kind.TheVariants as k
 use Rattle.sql_words.specs.declared.word.Word.{Word}
-use Rattle.sql_grammar.specs.Reading.{peek, next}
+use Rattle.sql_phrases.specs.Reading.{peek, next}
 
 -- these words after ALTER
 abbrev pub after_alter : Kind → Bool

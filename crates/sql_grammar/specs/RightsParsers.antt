@@ -18,9 +18,9 @@ use Rattle.sql_words.specs.Kinds.{kind_of, is_name, same_kind}
 use Rattle.sql_words.specs.declared.kind.Kind.{Kind}
 use Rattle.sql_words.specs.declared.kind.Kind.TheVariants as k
 use Rattle.sql_words.specs.declared.word.Word.{Word}
-use Rattle.sql_grammar.specs.Reading.{peek, next, sees}
-use Rattle.sql_grammar.specs.Parsers.{Outcome, Parser, and_then, ◌>>=◌, ◌>>◌, ◌<$>◌, pure, refuse, skip, eat, expect, separated, optional}
-use Rattle.sql_grammar.specs.NameParsers.{identifier, object_name, columns, sees_name}
+use Rattle.sql_phrases.specs.Reading.{peek, next, sees}
+use Rattle.sql_phrases.specs.Parsers.{Outcome, Parser, and_then, ◌>>=◌, ◌>>◌, ◌<$>◌, pure, refuse, skip, eat, expect, separated, optional}
+use Rattle.sql_phrases.specs.NameParsers.{identifier, object_name, columns, sees_name}
 use Rattle.sql_grammar.specs.RightsRules.{fit}
 
 unfoldable pub behaviour : Parser Behaviour

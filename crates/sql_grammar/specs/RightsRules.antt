@@ -19,8 +19,8 @@ use Rattle.sql_tree.specs.declared.statement.Behaviour.TheVariants as behaviours
 use Rattle.sql_words.specs.declared.kind.Kind.{Kind}
 use Rattle.sql_words.specs.declared.kind.Kind.TheVariants as k
 use Rattle.sql_words.specs.declared.word.Word.{Word}
-use Rattle.sql_grammar.specs.Shapes.{Spelled, Token, Separated, Optional}
-use Rattle.sql_grammar.specs.NameRules.{IsIdentifier, IsObjectName, IsColumns}
+use Rattle.sql_phrases.specs.Shapes.{Spelled, Token, Separated, Optional}
+use Rattle.sql_phrases.specs.NameRules.{IsIdentifier, IsObjectName, IsColumns}
 
 -- beh := RESTRICT | CASCADE, and RESTRICT where it is left out
 pub data IsBehaviour : Behaviour → List Word → List Word → Type 0 where

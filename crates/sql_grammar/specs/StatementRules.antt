@@ -20,8 +20,8 @@ use Rattle.sql_tree.specs.declared.statement.Statement.TheVariants as statements
 use Rattle.sql_tree.specs.declared.table.TableElement.{TableElement}
 use Rattle.sql_words.specs.declared.kind.Kind.TheVariants as k
 use Rattle.sql_words.specs.declared.word.Word.{Word}
-use Rattle.sql_grammar.specs.Shapes.{Spelled, Token, Separated, Optional}
-use Rattle.sql_grammar.specs.NameRules.{IsIdentifier, IsLiteralName, IsObjectName, IsIdentifiers}
+use Rattle.sql_phrases.specs.Shapes.{Spelled, Token, Separated, Optional}
+use Rattle.sql_phrases.specs.NameRules.{IsIdentifier, IsLiteralName, IsObjectName, IsIdentifiers}
 use Rattle.sql_grammar.specs.RightsRules.{IsBehaviour, IsGrantorAfter, IsGrantedBy, IsGrantee, IsPrivilegesOn, IsWithOption, IsOptionFor}
 use Rattle.sql_grammar.specs.AlterRules.{IsAlterTableAction, IsAlterDomainAction}
 use Rattle.sql_grammar.specs.InformationRules.{IsInfoQuery}

@@ -20,12 +20,12 @@ use Rattle.sql_tree.specs.declared.table.TableElement.TheVariants as elements
 use Rattle.sql_words.specs.declared.kind.Kind.{Kind}
 use Rattle.sql_words.specs.declared.kind.Kind.TheVariants as k
 use Rattle.sql_words.specs.declared.word.Word.{Word}
-use Rattle.sql_grammar.specs.Reading.{peek, next, sees}
-use Rattle.sql_grammar.specs.Parsers.{Outcome, Parser, and_then, ◌>>=◌, ◌>>◌, ◌<$>◌, pure, refuse, skip, eat, expect, separated, repeated, optional}
-use Rattle.sql_grammar.specs.NameParsers.{identifier, identifiers, object_name, sees_name}
-use Rattle.sql_grammar.specs.NameParsers as names
-use Rattle.sql_grammar.specs.TypeParsers.{sql_type}
-use Rattle.sql_grammar.specs.TypeParsers as types
+use Rattle.sql_phrases.specs.Reading.{peek, next, sees}
+use Rattle.sql_phrases.specs.Parsers.{Outcome, Parser, and_then, ◌>>=◌, ◌>>◌, ◌<$>◌, pure, refuse, skip, eat, expect, separated, repeated, optional}
+use Rattle.sql_phrases.specs.NameParsers.{identifier, identifiers, object_name, sees_name}
+use Rattle.sql_phrases.specs.NameParsers as names
+use Rattle.sql_phrases.specs.TypeParsers.{sql_type}
+use Rattle.sql_phrases.specs.TypeParsers as types
 use Rattle.sql_grammar.specs.TableRules.{has_one_default}
 
 -- after SET

@@ -22,9 +22,9 @@ use Rattle.sql_tree.specs.declared.table.TableElement.{TableElement}
 use Rattle.sql_tree.specs.declared.table.TableElement.TheVariants as elements
 use Rattle.sql_words.specs.declared.kind.Kind.TheVariants as k
 use Rattle.sql_words.specs.declared.word.Word.{Word}
-use Rattle.sql_grammar.specs.Shapes.{Spelled, Token, Separated, Repeated, Optional}
-use Rattle.sql_grammar.specs.NameRules.{IsIdentifier, IsObjectName, IsIdentifiers, IsColumns}
-use Rattle.sql_grammar.specs.TypeRules.{IsType, IsDefault}
+use Rattle.sql_phrases.specs.Shapes.{Spelled, Token, Separated, Repeated, Optional}
+use Rattle.sql_phrases.specs.NameRules.{IsIdentifier, IsObjectName, IsIdentifiers, IsColumns}
+use Rattle.sql_phrases.specs.TypeRules.{IsType, IsDefault}
 
 -- rule := CASCADE | SET NULL | SET DEFAULT | RESTRICT | NO ACTION
 pub data IsRule : Rule → List Word → List Word → Type 0 where

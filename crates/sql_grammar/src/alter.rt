@@ -2,14 +2,11 @@
 
 ghost use Rattle.std.specs.Prelude.{◌≡◌};
 ghost use Rattle.sql_grammar.specs.AlterParsers as spec;
-ghost use Rattle.sql_grammar.specs.Parsers.{Reads};
+ghost use Rattle.sql_phrases.specs.Parsers.{Reads};
 
-use crate::error::GrammarError;
-use crate::names::{identifier, sees_name};
-use crate::reader::Reader;
 use crate::rights::behaviour;
 use crate::table::{MOST_OPEN, column_definition, table_constraint};
-use crate::types::default;
+use sql_phrases::{GrammarError, Reader, default, identifier, sees_name};
 use sql_tree::{AlterDomainAction, AlterTableAction, Default, Name};
 use sql_words::Kind;
 use std::alloc::Global;

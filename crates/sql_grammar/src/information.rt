@@ -3,11 +3,9 @@
 ghost use Rattle.std.specs.Prelude.{◌≡◌};
 ghost use Rattle.sql_words.specs.declared.kind.Kind.TheVariants as k;
 ghost use Rattle.sql_grammar.specs.InformationParsers as spec;
-ghost use Rattle.sql_grammar.specs.Parsers.{Reads, separated};
+ghost use Rattle.sql_phrases.specs.Parsers.{Reads, separated};
 
-use crate::error::GrammarError;
-use crate::names::{identifier, identifiers};
-use crate::reader::Reader;
+use sql_phrases::{GrammarError, Reader, identifier, identifiers};
 use sql_tree::{InfoColumns, InfoQuery, InfoTest, InfoValue, Items};
 use sql_words::Kind;
 use std::alloc::Global;
@@ -37,7 +35,7 @@ fn info_test(alloc: Global, words: &mut Reader<'_>) -> Result<InfoTest, GrammarE
     Ok(InfoTest::Equals { column, value })
 }
 
-#[tactic(auto, unfolding(crate::specs::Parsers::separated), using(crate::proofs::Turns::separated_step, crate::proofs::Turns::separated_done))]
+#[tactic(auto, unfolding(sql_phrases::specs::Parsers::separated), using(sql_phrases::proofs::Turns::separated_step, sql_phrases::proofs::Turns::separated_done))]
 fn every_test(alloc: Global, words: &mut Reader<'_>) -> Result<Items<InfoTest>, GrammarError>
     ensures { Reads (separated k.And spec.info_test words.old) result words.new }
 {

@@ -2,17 +2,13 @@
 #![tactic(auto)]
 
 mod alter;
-mod error;
 mod information;
-mod names;
 mod profile;
-mod reader;
 mod rights;
 mod statements;
 mod table;
-mod types;
 
-pub use error::GrammarError;
+pub use sql_phrases::GrammarError;
 pub use statements::{statement, unambiguous};
 
 #[cfg(test)]

@@ -3,13 +3,11 @@
 ghost use Rattle.std.specs.Prelude.{◌≡◌, Some};
 ghost use Rattle.std.specs.List.{list_all};
 ghost use Rattle.sql_words.specs.declared.kind.Kind.TheVariants as k;
-ghost use Rattle.sql_grammar.specs.Parsers.{Reads, separated};
+ghost use Rattle.sql_phrases.specs.Parsers.{Reads, separated};
 ghost use Rattle.sql_grammar.specs.RightsRules as rules;
 ghost use Rattle.sql_grammar.specs.RightsParsers as spec;
 
-use crate::error::GrammarError;
-use crate::names::{columns, identifier, object_name};
-use crate::reader::Reader;
+use sql_phrases::{GrammarError, Reader, columns, identifier, object_name};
 use sql_tree::{
     Action, Behaviour, Grantee, Grantor, Items, Privilege, Privileges, Target, TargetKind,
 };
@@ -49,7 +47,7 @@ pub fn grantor_after(words: &mut Reader<'_>, by: Kind) -> Result<Grantor, Gramma
 }
 
 /// `[GRANTED BY grantor]`
-#[tactic(auto, unfolding(crate::specs::RightsParsers::granted_by, crate::specs::Parsers::optional))]
+#[tactic(auto, unfolding(crate::specs::RightsParsers::granted_by, sql_phrases::specs::Parsers::optional))]
 pub fn granted_by(words: &mut Reader<'_>) -> Result<Option<Grantor>, GrammarError>
     ensures { Reads (spec.granted_by words.old) result words.new }
 {
@@ -71,7 +69,7 @@ fn grantee(alloc: Global, words: &mut Reader<'_>) -> Result<Grantee, GrammarErro
 }
 
 /// Grantees with commas between them.
-#[tactic(auto, unfolding(crate::specs::Parsers::separated), using(crate::proofs::Turns::separated_step, crate::proofs::Turns::separated_done))]
+#[tactic(auto, unfolding(sql_phrases::specs::Parsers::separated), using(sql_phrases::proofs::Turns::separated_step, sql_phrases::proofs::Turns::separated_done))]
 pub fn grantees(alloc: Global, words: &mut Reader<'_>) -> Result<Items<Grantee>, GrammarError>
     ensures { Reads (separated k.Comma spec.grantee words.old) result words.new }
 {
@@ -127,7 +125,7 @@ fn privilege(alloc: Global, words: &mut Reader<'_>) -> Result<Privilege, Grammar
     }
 }
 
-#[tactic(auto, unfolding(crate::specs::Parsers::separated), using(crate::proofs::Turns::separated_step, crate::proofs::Turns::separated_done))]
+#[tactic(auto, unfolding(sql_phrases::specs::Parsers::separated), using(sql_phrases::proofs::Turns::separated_step, sql_phrases::proofs::Turns::separated_done))]
 fn listed(alloc: Global, words: &mut Reader<'_>) -> Result<Items<Privilege>, GrammarError>
     ensures { Reads (separated k.Comma spec.privilege words.old) result words.new }
 {
@@ -165,7 +163,7 @@ fn target_kind_by(kind: Kind, named: bool) -> Option<TargetKind>
     }
 }
 
-#[tactic(auto, unfolding(crate::specs::RightsParsers::target_kind, crate::specs::NameParsers::sees_name))]
+#[tactic(auto, unfolding(crate::specs::RightsParsers::target_kind, sql_phrases::specs::NameParsers::sees_name))]
 fn target_kind(words: &mut Reader<'_>) -> TargetKind
     ensures { spec.target_kind words.old ≡ Some (result, words.new) }
 {

@@ -4,24 +4,22 @@ ghost use Rattle.std.specs.Prelude.{◌≡◌, ◌↔◌, List, Err, IfOk};
 ghost use Rattle.sql_tree.specs.declared.statement.Statement.{Statement};
 ghost use Rattle.sql_words.specs.declared.word.Word.{Word};
 ghost use Rattle.sql_words.specs.declared.kind.Kind.TheVariants as k;
-ghost use Rattle.sql_grammar.specs.NameParsers as names;
-ghost use Rattle.sql_grammar.specs.Parsers as parsers;
-ghost use Rattle.sql_grammar.specs.Parsers.{Reads};
+ghost use Rattle.sql_phrases.specs.NameParsers as names;
+ghost use Rattle.sql_phrases.specs.Parsers as parsers;
+ghost use Rattle.sql_phrases.specs.Parsers.{Reads};
 ghost use Rattle.sql_grammar.specs.Profile.{OutOfProfile};
 ghost use Rattle.sql_grammar.specs.StatementParsers as spec;
 ghost use Rattle.sql_grammar.specs.StatementRules as grammar;
 
 use crate::alter::{alter_domain_action, alter_table_action};
-use crate::error::GrammarError;
 use crate::information::info_query;
-use crate::names::{identifier, identifiers, literal_name, object_name};
 use crate::profile::begins_other;
-use crate::reader::Reader;
 use crate::rights::{
     behaviour, granted_by, grantees, grantor_after, names_then, option_for, privileges_on,
     with_option,
 };
 use crate::table::{MOST_OPEN, table_elements};
+use sql_phrases::{GrammarError, Reader, identifier, identifiers, literal_name, object_name};
 use sql_tree::{
     AlterDomain, AlterTable, Connect, CreateRole, CreateSchema, CreateTable, DropKind, DropObject,
     GrantPrivileges, GrantRoles, Grantor, Items, Name, RevokePrivileges, RevokeRoles, RoleChoice,
@@ -43,7 +41,7 @@ fn role_choice(alloc: Global, words: &mut Reader<'_>) -> Result<RoleChoice, Gram
     Ok(RoleChoice::Identifier(identifier(alloc, words)?))
 }
 
-#[tactic(auto, unfolding(crate::specs::Parsers::optional))]
+#[tactic(auto, unfolding(sql_phrases::specs::Parsers::optional))]
 fn owner(alloc: Global, words: &mut Reader<'_>) -> Result<Option<Name>, GrammarError>
     ensures { Reads (parsers.optional k.Authorization names.identifier words.old) result words.new }
 {
@@ -69,7 +67,7 @@ fn schema_name_clause(
     Ok(SchemaNameClause::Named { schema, owner })
 }
 
-#[tactic(auto, unfolding(crate::specs::Parsers::optional))]
+#[tactic(auto, unfolding(sql_phrases::specs::Parsers::optional))]
 fn connection(alloc: Global, words: &mut Reader<'_>) -> Result<Option<Name>, GrammarError>
     ensures { Reads (parsers.optional k.As names.literal_name words.old) result words.new }
 {
@@ -128,7 +126,7 @@ fn create_schema(alloc: Global, words: &mut Reader<'_>) -> Result<Statement, Gra
     }))
 }
 
-#[tactic(auto, unfolding(crate::specs::StatementParsers::admin, crate::specs::Parsers::optional))]
+#[tactic(auto, unfolding(crate::specs::StatementParsers::admin, sql_phrases::specs::Parsers::optional))]
 fn admin(words: &mut Reader<'_>) -> Result<Option<Grantor>, GrammarError>
     ensures { Reads (spec.admin words.old) result words.new }
 {
@@ -358,7 +356,7 @@ fn revoke_admin_option(alloc: Global, words: &mut Reader<'_>) -> Result<Statemen
     Ok(revoke_roles(alloc, words, true)?)
 }
 
-#[tactic(auto, unfolding(crate::specs::StatementParsers::sees_admin_option, crate::specs::Reading::sees))]
+#[tactic(auto, unfolding(crate::specs::StatementParsers::sees_admin_option, sql_phrases::specs::Reading::sees))]
 fn sees_admin_option(words: &Reader<'_>) -> bool
     ensures { result ≡ spec.sees_admin_option words.now }
 {

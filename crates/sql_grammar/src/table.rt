@@ -2,14 +2,11 @@
 
 ghost use Rattle.std.specs.Prelude.{◌≡◌, ◌∷◌};
 ghost use Rattle.sql_words.specs.declared.kind.Kind.TheVariants as k;
-ghost use Rattle.sql_grammar.specs.Parsers.{Reads, separated};
+ghost use Rattle.sql_phrases.specs.Parsers.{Reads, separated};
 ghost use Rattle.sql_grammar.specs.TableParsers as spec;
 ghost use Rattle.sql_grammar.specs.TableRules as rules;
 
-use crate::error::GrammarError;
-use crate::names::{columns, identifier, identifiers, object_name, sees_name};
-use crate::reader::Reader;
-use crate::types::{default, sql_type};
+use sql_phrases::{GrammarError, Reader, columns, default, identifier, identifiers, object_name, sees_name, sql_type};
 use sql_tree::{
     ColumnConstraint, ColumnDefinition, ColumnOption, ColumnType, Items, Matching, Name,
     References, Rule, TableConstraint, TableConstraintKind, TableElement,
@@ -160,7 +157,7 @@ fn column_constraint(
     Ok(ColumnConstraint::References(references(alloc, words)?))
 }
 
-#[tactic(auto, unfolding(crate::specs::TableParsers::constraint_name, crate::specs::Parsers::optional))]
+#[tactic(auto, unfolding(crate::specs::TableParsers::constraint_name, sql_phrases::specs::Parsers::optional))]
 fn constraint_name(alloc: Global, words: &mut Reader<'_>) -> Result<Option<Name>, GrammarError>
     ensures { Reads (spec.constraint_name words.old) result words.new }
 {
@@ -201,7 +198,7 @@ fn begins_option(kind: Kind) -> bool
     )
 }
 
-#[tactic(auto, unfolding(crate::specs::TableParsers::column_options, crate::specs::Parsers::repeated), using(crate::proofs::Turns::repeated_step, crate::proofs::Turns::repeated_done))]
+#[tactic(auto, unfolding(crate::specs::TableParsers::column_options, sql_phrases::specs::Parsers::repeated), using(sql_phrases::proofs::Turns::repeated_step, sql_phrases::proofs::Turns::repeated_done))]
 fn column_options(
     alloc: Global,
     words: &mut Reader<'_>,
@@ -352,7 +349,7 @@ fn table_element(
     }
 }
 
-#[tactic(auto, unfolding(crate::specs::Parsers::separated), using(crate::proofs::Turns::separated_step, crate::proofs::Turns::separated_done))]
+#[tactic(auto, unfolding(sql_phrases::specs::Parsers::separated), using(sql_phrases::proofs::Turns::separated_step, sql_phrases::proofs::Turns::separated_done))]
 fn elements(
     alloc: Global,
     words: &mut Reader<'_>,

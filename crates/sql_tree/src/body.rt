@@ -1,7 +1,5 @@
 //! Bodies of routines.
 
-mod print;
-
 ghost use Rattle.std.specs.Prelude.{◌≡◌, ◌↔◌, IfOk, IsTrue};
 
 use crate::column::ObjectName;
@@ -9,7 +7,6 @@ use crate::copies::EqualCopy;
 use crate::expr::{Expr, Query};
 use crate::name::Name;
 use crate::sameness::Same;
-pub use print::{print_body, put_body};
 use sqlite_items::Items;
 use std::alloc::{AllocError, Global};
 

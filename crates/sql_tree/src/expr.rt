@@ -1,15 +1,12 @@
 //! Queries and expressions, one type for each rule of the grammar.
 
 mod copy;
-mod print;
 mod same;
 
 use crate::column::{ObjectName, Reference, TableReference};
 use crate::name::Name;
 use crate::sort::{Special, SqlType};
 use crate::text::Text;
-pub use print::{print_expr, print_query, put_expr, put_query};
-pub(crate) use print::{put_call, put_optional_expr};
 use sqlite_items::{Boxed, Items};
 
 /// How two values are compared.

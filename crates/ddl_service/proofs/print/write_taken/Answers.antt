@@ -1,6 +1,6 @@
 use Rattle.std.proofs.Common.{[], ◌∷◌, ◌++◌, codes}
 use Rattle.svc_io.proofs.Told.{GotFront-before, GotFront-after, Puts-after}
-use Rattle.sql_tree.specs.Texts as texts
+use Rattle.sql_text.specs.Texts as texts
 use Rattle.ddl_service.proofs.print.write_taken.Goals as goal
 
 pub returns-in-Err-clause-bytes : goal.returns-in-Err-clause-bytes

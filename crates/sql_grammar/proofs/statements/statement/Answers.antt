@@ -1,5 +1,5 @@
 use Rattle.std.proofs.Common.{◌≡◌, ◌∙◌, arith}
-use Rattle.sql_grammar.specs.declared.error.GrammarError.TheVariants.{Syntax}
+use Rattle.sql_phrases.specs.declared.error.GrammarError.TheVariants.{Syntax}
 use Rattle.sql_grammar.proofs.StatementProofs.{found, only, never_read, at_end, not_at_end}
 use Rattle.sql_grammar.proofs.statements.statement.Goals as goal
 

@@ -1,5 +1,5 @@
 use Rattle.std.proofs.Common.{◌≡◌, ◌-◌}
-use Rattle.sql_grammar.specs.Parsers.{repeated_from}
+use Rattle.sql_phrases.specs.Parsers.{repeated_from}
 use Rattle.sql_grammar.specs.TableParsers.{column_option, column_options, begins_option}
 use Rattle.sql_grammar.proofs.table.column_options.Given as goal
 

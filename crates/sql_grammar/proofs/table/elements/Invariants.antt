@@ -1,6 +1,6 @@
 use Rattle.std.proofs.Common.{◌≡◌, ◌-◌}
 use Rattle.sql_words.specs.declared.kind.Kind.TheVariants as k
-use Rattle.sql_grammar.specs.Parsers.{separated, separated_from}
+use Rattle.sql_phrases.specs.Parsers.{separated, separated_from}
 use Rattle.sql_grammar.specs.TableParsers.{table_element}
 use Rattle.sql_grammar.proofs.table.elements.Given as goal
 

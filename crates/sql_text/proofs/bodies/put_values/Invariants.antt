@@ -1,0 +1,7 @@
+use Rattle.std.proofs.Common.{◌≡◌, ◌++◌, take, map, codes}
+use Rattle.std.specs.List.{flat_map}
+use Rattle.sql_text.specs.Bodies as spec
+use Rattle.sql_text.proofs.bodies.put_values.Given as goal
+
+abbrev pub invariant-loop-one : goal.invariant-loop-one
+invariant-loop-one l = l.out ≡ l.initial.out ++ flat_map (λ u. codes ", " ++ u) (map spec.value_text (take l.one-index l.rest))

@@ -1,0 +1,4 @@
+pub mod Bodies
+pub mod Printing
+pub mod Reserved
+pub mod Texts

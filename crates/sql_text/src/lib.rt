@@ -1,0 +1,17 @@
+//! The printed text of names, types, defaults, queries, expressions and bodies.
+#![tactic(auto)]
+
+mod bodies;
+mod exprs;
+mod names;
+mod reserved;
+#[cfg(test)]
+mod tests;
+
+pub use bodies::{print_body, put_body};
+pub use exprs::{print_expr, print_query, put_expr, put_query};
+pub use names::{
+    print_name, put_default, put_literal, put_name, put_object, put_object_name, put_reference,
+    put_special, put_type,
+};
+pub use reserved::is_reserved;

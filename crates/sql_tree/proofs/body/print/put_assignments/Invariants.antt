@@ -1,7 +1,0 @@
-use Rattle.std.proofs.Common.{◌≡◌, ◌++◌, take, map, codes}
-use Rattle.std.specs.List.{flat_map}
-use Rattle.sql_tree.specs.Bodies as spec
-use Rattle.sql_tree.proofs.body.print.put_assignments.Given as goal
-
-abbrev pub invariant-loop-one : goal.invariant-loop-one
-invariant-loop-one l = l.out ≡ l.initial.out ++ flat_map (λ u. codes ", " ++ u) (map spec.assignment_text (take l.one-index l.rest))
