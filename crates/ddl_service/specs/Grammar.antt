@@ -2,7 +2,7 @@
 use Rattle.std.specs.Prelude.{◌≡◌, Bool, not, ◌&&◌, IsTrue, ℕ, List, [], ◌∷◌, codes, Ok}
 use Rattle.std.specs.Str.{bytes_eq}
 use Rattle.sql_tree.specs.Names.{IsName}
-use Rattle.sql_text.specs.Reserved.{is_reserved}
+use Rattle.sql_words.specs.Keywords.{is_reserved_word}
 use Rattle.ddl_service.specs.declared.statement.Statement.{Statement}
 use Rattle.ddl_service.specs.declared.statement.Statement.TheVariants.{Connect, CreateSchema}
 use Rattle.sql_words.specs.Words.{words_of}
@@ -11,7 +11,7 @@ use Rattle.sql_words.specs.declared.word.Word.TheVariants.{Plain, Literal}
 
 -- a plain word may name a schema
 unfoldable pub may_name_schema : List ℕ → Bool
-may_name_schema word = not (is_reserved word) && not (bytes_eq (codes "INFORMATION_SCHEMA") word) && not (bytes_eq (codes "DEFINITION_SCHEMA") word)
+may_name_schema word = not (is_reserved_word word) && not (bytes_eq (codes "INFORMATION_SCHEMA") word) && not (bytes_eq (codes "DEFINITION_SCHEMA") word)
 
 -- CONNECT TO lit USER lit, and CREATE SCHEMA name
 abbrev pub Grammar : List Word → Statement → Type 0

@@ -6,9 +6,8 @@ ghost use Rattle.ddl_service.specs.Grammar as grammar;
 ghost use Rattle.ddl_service.specs.declared.statement.Statement.{Statement};
 
 use crate::statement::Statement;
-use sql_text::is_reserved;
 use sql_tree::Name;
-use sql_words::{Word, WordsError, words};
+use sql_words::{Word, WordsError, is_reserved_word, words};
 use std::alloc::{AllocError, Global};
 
 // Whether these are the bytes of a word.
@@ -23,7 +22,7 @@ pub fn is_word(bytes: &[u8], word: &str) -> bool
 fn may_name_schema(name: &[u8]) -> bool
     ensures { result ≡ grammar.may_name_schema name.now }
 {
-    !is_reserved(name)
+    !is_reserved_word(name)
         && !is_word(name, "INFORMATION_SCHEMA")
         && !is_word(name, "DEFINITION_SCHEMA")
 }

@@ -6,7 +6,7 @@ ghost use Rattle.ddl_service.specs.Printed as printed;
 
 use crate::regular::are_regular;
 use crate::reply::{Refusal, Reply};
-use sql_text::is_reserved;
+use sql_words::is_reserved_word;
 use svc_io::{Failed, Sink, put_all};
 
 // Whether a name stands without quotes.
@@ -17,7 +17,7 @@ fn is_bare(name: &[u8]) -> bool
     match name {
         [] => false,
         [first, rest @ ..] => {
-            first.is_ascii_uppercase() && are_regular(rest) && !is_reserved(name)
+            first.is_ascii_uppercase() && are_regular(rest) && !is_reserved_word(name)
         }
     }
 }

@@ -6,7 +6,10 @@ ghost use Rattle.sql_phrases.specs.Parsers.{Reads, separated};
 ghost use Rattle.sql_grammar.specs.TableParsers as spec;
 ghost use Rattle.sql_grammar.specs.TableRules as rules;
 
-use sql_phrases::{GrammarError, Reader, columns, default, identifier, identifiers, object_name, sees_name, sql_type};
+use sql_phrases::{
+    GrammarError, Reader, columns, default, identifier, identifiers, object_name, sees_name,
+    sql_type,
+};
 use sql_tree::{
     ColumnConstraint, ColumnDefinition, ColumnOption, ColumnType, Items, Matching, Name,
     References, Rule, TableConstraint, TableConstraintKind, TableElement,

@@ -7,13 +7,6 @@ mod reader;
 mod types;
 
 pub use error::GrammarError;
-pub use names::columns;
-pub use names::identifier;
-pub use names::identifiers;
-pub use names::literal_name;
-pub use names::object_name;
-pub use names::sees_name;
+pub use names::{columns, identifier, identifiers, literal_name, object_name, sees_name};
 pub use reader::Reader;
-pub use types::default;
-pub use types::special_by;
-pub use types::sql_type;
+pub use types::{default, special_by, sql_type};

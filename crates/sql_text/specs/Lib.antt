@@ -1,4 +1,3 @@
 pub mod Bodies
 pub mod Printing
-pub mod Reserved
 pub mod Texts

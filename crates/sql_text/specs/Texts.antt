@@ -2,7 +2,7 @@
 use Rattle.std.specs.Prelude.{ℕ, Bool, false, ◌&&◌, ◌||◌, not, List, [], ◌∷◌, ◌++◌, Option, Some, None, codes, decimal, if◌then◌else◌, ◌==◌, flat_map}
 use Rattle.std.specs.List.{list_all}
 use Rattle.std.specs.Char.{is_ascii_uppercase, is_ascii_digit}
-use Rattle.sql_text.specs.Reserved.{is_reserved}
+use Rattle.sql_words.specs.Keywords.{is_reserved_word}
 use Rattle.sql_tree.specs.declared.object.Object.{Object}
 use Rattle.sql_tree.specs.declared.column.ObjectName.{ObjectName}
 use Rattle.sql_tree.specs.declared.column.ObjectName.TheVariants as object_names
@@ -30,7 +30,7 @@ continues byte = is_ascii_uppercase byte || is_ascii_digit byte || byte == 95
 -- whether a name stands without quotes: an upper-case letter, then upper-case letters, digits and _, and no reserved word
 unfoldable pub is_bare : T → Bool
 is_bare [] = false
-is_bare (byte ∷ bytes) = is_ascii_uppercase byte && list_all continues bytes && not (is_reserved (byte ∷ bytes))
+is_bare (byte ∷ bytes) = is_ascii_uppercase byte && list_all continues bytes && not (is_reserved_word (byte ∷ bytes))
 
 unfoldable pub name_text : T → T
 name_text name = if is_bare name then name else quoted 34 name

@@ -4,7 +4,6 @@
 mod bodies;
 mod exprs;
 mod names;
-mod reserved;
 #[cfg(test)]
 mod tests;
 
@@ -14,4 +13,3 @@ pub use names::{
     print_name, put_default, put_literal, put_name, put_object, put_object_name, put_reference,
     put_special, put_type,
 };
-pub use reserved::is_reserved;

@@ -6,11 +6,11 @@ ghost use Rattle.std.specs.Prelude.{◌≡◌, ◌++◌, OnOk, IfOk, decimal};
 ghost use Rattle.std.specs.List.{list_all};
 ghost use Rattle.sql_text.specs.Texts as spec;
 
-use crate::reserved::is_reserved;
 use itoa::Buffer;
 use sql_tree::{
     Default, Name, Object, ObjectName, Reference, Special, SqlType, TableReference, Text,
 };
+use sql_words::is_reserved_word;
 use std::alloc::{AllocError, Global};
 
 #[tactic(auto, unfolding(crate::specs::Texts::quoted))]
@@ -51,7 +51,7 @@ fn is_bare(bytes: &[u8]) -> bool
     match bytes {
         [] => false,
         [first, rest @ ..] => {
-            first.is_ascii_uppercase() && all_continue(rest) && !is_reserved(bytes)
+            first.is_ascii_uppercase() && all_continue(rest) && !is_reserved_word(bytes)
         }
     }
 }

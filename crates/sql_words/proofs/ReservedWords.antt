@@ -2,9 +2,8 @@
 use Rattle.std.proofs.Common.{◌≡◌, ◌&&◌, ◌||◌, if◌then◌else◌, not, Bool, true, false, ℕ, List, [], ◌∷◌, ◌++◌, refl, sym, ap, ◌∙◌}
 use Rattle.std.specs.List.{list_all, list_any}
 use Rattle.std.specs.Str.{bytes_eq}
-use Rattle.sql_words.specs.Keywords.{Keyword, reserved_words, other_words}
+use Rattle.sql_words.specs.Keywords.{Keyword, reserved_words, other_words, is_reserved_word}
 use Rattle.sql_words.specs.Kinds.{lookup, keyword, is_reserved, is_name, same_kind}
-use Rattle.sql_words.specs.KeywordLaws.{is_reserved_word}
 use Rattle.sql_words.specs.declared.kind.Kind.{Kind}
 use Rattle.sql_words.specs.declared.kind.Kind.TheVariants as k
 
@@ -53,7 +52,7 @@ unfolding is_reserved
 name-is = refl
 
 pub reserved-by-list : (text : List ℕ) → is_reserved (keyword text) ≡ is_reserved_word text
-unfolding keyword
+unfolding keyword is_reserved_word
 reserved-by-list text = holds is_reserved reserved_words other_words text reserved-are (fails is_reserved other_words text others-are name-is)
 
 not-not : (a : Bool) → not (not a) ≡ a
@@ -73,6 +72,6 @@ unfolding is_name same_kind
 name-is-name = refl
 
 pub names-by-list : (text : List ℕ) → is_name (keyword text) ≡ not (is_reserved_word text)
-unfolding keyword
+unfolding keyword is_reserved_word
 names-by-list text = sym (not-not (is_name (lookup (reserved_words ++ other_words) text)))
     ∙ ap not (holds (λ kind. not (is_name kind)) reserved_words other_words text reserved-no-names (fails (λ kind. not (is_name kind)) other_words text others-names name-is-name))

@@ -1,5 +1,7 @@
 -- The keywords of the grammar, each with its kind.
-use Rattle.std.specs.Prelude.{ℕ, List, [], ◌∷◌, codes}
+use Rattle.std.specs.Prelude.{Bool, ℕ, List, [], ◌∷◌, codes}
+use Rattle.std.specs.List.{list_any}
+use Rattle.std.specs.Str.{bytes_eq}
 use Rattle.sql_words.specs.declared.kind.Kind.{Kind}
 use Rattle.sql_words.specs.declared.kind.Kind.TheVariants as k
 
@@ -103,6 +105,10 @@ reserved_words =
     (codes "WHERE", k.Where) ∷
     (codes "WITH", k.With) ∷
     []
+
+-- a text in upper case is one of the reserved words
+unfoldable pub is_reserved_word : List ℕ → Bool
+is_reserved_word text = list_any (λ entry. bytes_eq entry.0 text) reserved_words
 
 -- the words of the grammar that aren't reserved, and those with which statements begin that it lacks
 unfoldable pub other_words : List Keyword

@@ -1,4 +1,5 @@
 ghost use Rattle.std.specs.Prelude.{◌≡◌, ◌<◌, [], length, map, slice_index_or};
+ghost use Rattle.sql_words.specs.Keywords as keywords;
 ghost use Rattle.sql_words.specs.Kinds as spec;
 ghost use Rattle.sql_words.specs.Sections as table;
 
@@ -291,6 +292,13 @@ pub fn is_reserved(kind: Kind) -> bool
 {
     let number = kind as u8;
     (Kind::All as u8) <= number && number <= (Kind::With as u8)
+}
+
+/// Whether a text in upper case is a reserved word, which names nothing unless it is quoted.
+pub fn is_reserved_word(text: &[u8]) -> bool
+    ensures { result ≡ keywords.is_reserved_word text.now }
+{
+    is_reserved(keyword(text))
 }
 
 /// Whether a word of this kind stands for a name: a quoted name, and each plain word that isn't reserved.

@@ -10,7 +10,7 @@ mod splitter;
 mod tokens;
 mod word;
 
-pub use kind::{Kind, is_name, is_reserved, kind_of, same_kind, text_of};
+pub use kind::{Kind, is_name, is_reserved, is_reserved_word, kind_of, same_kind, text_of};
 pub use laws::{
     each_stream_has_one_division, pieces_compose, reserved_words_are_no_names,
     spelled_words_are_read, texts_are_those_of_the_parts, tokens_spell_their_words,
