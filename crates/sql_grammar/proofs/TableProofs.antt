@@ -32,9 +32,27 @@ use Rattle.sql_grammar.specs.TableParsers.{begins_option}
 use Rattle.sql_phrases.proofs.Follow.{follows, continues, Below, below_more, passes, sees_differs, sees_other}
 use Rattle.sql_phrases.proofs.Lists.{Gives, gives_none, gives_some, gives_then, gives_weaker, gives_if, after_not, token_next, gives_eat, gives_expect, expect_at, sees_at, after_at, next_at, peek_at, below_token, shorter_token, shorter_spelled, Parses, separated_parses, repeated_complete, repeated_sound, repeated_shorter, below_repeated, optional_complete, optional_sound}
 use Rattle.sql_phrases.proofs.NameProofs.{identifier_at, gives_identifier, identifier_begins, identifier_shorter, object_name_at, gives_object_name, object_name_begins, object_name_shorter, identifiers_parse, columns_at, gives_columns, columns_shorter}
-use Rattle.sql_phrases.proofs.TypeProofs.{type_at, gives_type, type_shorter, default_at, gives_default, default_shorter}
+use Rattle.sql_phrases.proofs.TypeProofs.{type_at, gives_type, default_at, gives_default}
 
 -- ---- lengths
+
+special_shorter : {s : Special} {ws rest : List Word} → IsSpecial s ws rest → length rest < length ws
+special_shorter (types.current_user t) = shorter_token t
+special_shorter (types.current_date t) = shorter_token t
+special_shorter (types.current_time t) = shorter_token t
+special_shorter (types.current_timestamp t) = shorter_token t
+
+default_shorter : {d : Default} {ws rest : List Word} → IsDefault d ws rest → length rest < length ws
+default_shorter (types.literal s) = shorter_spelled s
+default_shorter (types.number absent s) = shorter_spelled s
+default_shorter (types.number (present t) s) = omega (arith, shorter_token t, shorter_spelled s)
+default_shorter (types.true_word t) = shorter_token t
+default_shorter (types.false_word t) = shorter_token t
+default_shorter (types.null t) = shorter_token t
+default_shorter (types.special s) = special_shorter s
+
+number_shorter : {low high n : ℕ} {ws rest : List Word} → IsNumber low high n ws rest → length rest < length ws
+number_shorter (types.number s d lo hi) = shorter_spelled s
 
 rule_shorter : {r : Rule} {ws rest : List Word} → IsRule r ws rest → length rest < length ws
 rule_shorter (cascade t) = shorter_token t
@@ -352,6 +370,36 @@ type_ends : (ws : List Word) → Below continues 11 ws → Below follows 10 ws
 type_ends ws s = record { below = type_ends_by (peek ws) s.below }
 
 module _ (m : ℕ) where
+  bracketed_shorter : {low high n : ℕ} {ws rest : List Word} → IsBracketed m low high n ws rest → length rest < length ws
+  bracketed_shorter (types.bracketed lt l n r) = omega (arith, shorter_token l, number_shorter n, shorter_token r)
+
+  size_shorter : {without low high n : ℕ} {ws rest : List Word} → IsSize m without low high n ws rest → length rest ≤ length ws
+  size_shorter types.size_unsaid = omega arith
+  size_shorter (types.size b) = omega (arith, bracketed_shorter b)
+
+  precision_shorter : {p s : ℕ} {ws rest : List Word} → IsPrecision m p s ws rest → length rest ≤ length ws
+  precision_shorter types.precision_unsaid = omega arith
+  precision_shorter (types.precision b) = omega (arith, bracketed_shorter b)
+  precision_shorter (types.with_scale lt l n c q r) = omega (arith, shorter_token l, number_shorter n, shorter_token c, number_shorter q, shorter_token r)
+
+  type_shorter : {t : SqlType} {ws rest : List Word} → IsType m t ws rest → length rest < length ws
+  type_shorter (types.character (types.character_word t) n) = omega (arith, shorter_token t, size_shorter n)
+  type_shorter (types.character (types.char_word t) n) = omega (arith, shorter_token t, size_shorter n)
+  type_shorter (types.varchar t b) = omega (arith, shorter_token t, bracketed_shorter b)
+  type_shorter (types.varying (types.character_word t) v b) = omega (arith, shorter_token t, shorter_token v, bracketed_shorter b)
+  type_shorter (types.varying (types.char_word t) v b) = omega (arith, shorter_token t, shorter_token v, bracketed_shorter b)
+  type_shorter (types.numeric t p) = omega (arith, shorter_token t, precision_shorter p)
+  type_shorter (types.decimal (types.decimal_word t) p) = omega (arith, shorter_token t, precision_shorter p)
+  type_shorter (types.decimal (types.dec_word t) p) = omega (arith, shorter_token t, precision_shorter p)
+  type_shorter (types.smallint t) = shorter_token t
+  type_shorter (types.integer t) = shorter_token t
+  type_shorter (types.int t) = shorter_token t
+  type_shorter (types.bigint t) = shorter_token t
+  type_shorter (types.boolean t) = shorter_token t
+  type_shorter (types.date t) = shorter_token t
+  type_shorter (types.time t n) = omega (arith, shorter_token t, size_shorter n)
+  type_shorter (types.timestamp t n) = omega (arith, shorter_token t, size_shorter n)
+
   type_reserved : {t : SqlType} {ws rest : List Word} → IsType m t ws rest → is_name (peek ws) ≡ false
   unfolding is_name same_kind
   type_reserved (types.character (types.character_word t) n) = rw (peek_at t) refl
@@ -383,7 +431,7 @@ module _ (m : ℕ) where
       (λ _. gives_then (gives_type m) (λ t a is. gives_some (of_type is)))
 
   column_type_shorter : {x : ColumnType} {ws rest : List Word} → IsColumnType m x ws rest → length rest < length ws
-  column_type_shorter (of_type t) = type_shorter m t
+  column_type_shorter (of_type t) = type_shorter t
   column_type_shorter {ws = ws} {rest = rest} (of_domain o) = object_name_shorter _ ws rest o
 
   pub column_definition_at : {x : ColumnDefinition} {ws rest : List Word} → IsColumnDefinition m x ws rest → Below continues 10 rest → parse.column_definition m ws ≡ Some (x, rest)

@@ -45,9 +45,6 @@ gives_number : {low high : ℕ} {ws : List Word} → Gives (parse.number low hig
 unfolding parse.number
 gives_number {low} {high} {ws} = gives_if (sees k.Number ws) (λ e. number_given low high ws (number_within low high (spelling ws)) e refl) (λ _. gives_none)
 
-number_shorter : {low high n : ℕ} {ws rest : List Word} → IsNumber low high n ws rest → length rest < length ws
-number_shorter (number s d lo hi) = shorter_spelled s
-
 -- ---- numbers in brackets
 
 module _ (m : ℕ) where
@@ -137,36 +134,6 @@ module _ (m : ℕ) where
   unfolding parse.sql_type
   gives_type {ws} = type_sound_by ws (peek ws) refl
 
-  bracketed_shorter : {low high n : ℕ} {ws rest : List Word} → IsBracketed m low high n ws rest → length rest < length ws
-  bracketed_shorter (bracketed lt l n r) = omega (arith, shorter_token l, number_shorter n, shorter_token r)
-
-  size_shorter : {without low high n : ℕ} {ws rest : List Word} → IsSize m without low high n ws rest → length rest ≤ length ws
-  size_shorter size_unsaid = omega arith
-  size_shorter (size b) = omega (arith, bracketed_shorter b)
-
-  precision_shorter : {p s : ℕ} {ws rest : List Word} → IsPrecision m p s ws rest → length rest ≤ length ws
-  precision_shorter precision_unsaid = omega arith
-  precision_shorter (precision b) = omega (arith, bracketed_shorter b)
-  precision_shorter (with_scale lt l n c q r) = omega (arith, shorter_token l, number_shorter n, shorter_token c, number_shorter q, shorter_token r)
-
-  pub type_shorter : {t : SqlType} {ws rest : List Word} → IsType m t ws rest → length rest < length ws
-  type_shorter (character (character_word t) n) = omega (arith, shorter_token t, size_shorter n)
-  type_shorter (character (char_word t) n) = omega (arith, shorter_token t, size_shorter n)
-  type_shorter (varchar t b) = omega (arith, shorter_token t, bracketed_shorter b)
-  type_shorter (varying (character_word t) v b) = omega (arith, shorter_token t, shorter_token v, bracketed_shorter b)
-  type_shorter (varying (char_word t) v b) = omega (arith, shorter_token t, shorter_token v, bracketed_shorter b)
-  type_shorter (numeric t p) = omega (arith, shorter_token t, precision_shorter p)
-  type_shorter (decimal (decimal_word t) p) = omega (arith, shorter_token t, precision_shorter p)
-  type_shorter (decimal (dec_word t) p) = omega (arith, shorter_token t, precision_shorter p)
-  type_shorter (smallint t) = shorter_token t
-  type_shorter (integer t) = shorter_token t
-  type_shorter (int t) = shorter_token t
-  type_shorter (bigint t) = shorter_token t
-  type_shorter (boolean t) = shorter_token t
-  type_shorter (date t) = shorter_token t
-  type_shorter (time t n) = omega (arith, shorter_token t, size_shorter n)
-  type_shorter (timestamp t n) = omega (arith, shorter_token t, size_shorter n)
-
 -- ---- defaults
 
 pub special_at : {s : Special} {ws rest : List Word} → IsSpecial s ws rest → (parse.special_by (peek ws) ≡ Some s) × (next ws ≡ rest)
@@ -227,18 +194,3 @@ gives_default {ws} = gives_if (sees k.Literal ws)
     (λ _. gives_eat k.MinusSign tt _ _
     (λ m. gives_then (gives_text k.Number tt) (λ t rest s. gives_some (number (present m) s)))
     (λ e. rw e (unsigned_sound ws)))
-
-pub special_shorter : {s : Special} {ws rest : List Word} → IsSpecial s ws rest → length rest < length ws
-special_shorter (current_user t) = shorter_token t
-special_shorter (current_date t) = shorter_token t
-special_shorter (current_time t) = shorter_token t
-special_shorter (current_timestamp t) = shorter_token t
-
-pub default_shorter : {d : Default} {ws rest : List Word} → IsDefault d ws rest → length rest < length ws
-default_shorter (literal s) = shorter_spelled s
-default_shorter (number absent s) = shorter_spelled s
-default_shorter (number (present t) s) = omega (arith, shorter_token t, shorter_spelled s)
-default_shorter (true_word t) = shorter_token t
-default_shorter (false_word t) = shorter_token t
-default_shorter (null t) = shorter_token t
-default_shorter (special s) = special_shorter s
