@@ -1,7 +1,6 @@
 -- Tables: what is read is spelled so, and what is spelled so is read.
 use Rattle.std.proofs.Common.{◌≡◌, ℕ, ◌<◌, ◌≤◌, Bool, true, false, List, [], ◌∷◌, length, Option, Some, None, refl, ap, arith, lit<, lit≤}
 use Rattle.sql_tree.specs.declared.sort.Default.{Default}
-use Rattle.sql_tree.specs.declared.sort.Special.{Special}
 use Rattle.sql_tree.specs.declared.sort.SqlType.{SqlType}
 use Rattle.sql_tree.specs.declared.table.ColumnConstraint.{ColumnConstraint}
 use Rattle.sql_tree.specs.declared.table.ColumnDefinition.{ColumnDefinition}
@@ -23,8 +22,7 @@ use Rattle.sql_phrases.specs.Shapes.{Token, Spells, Separated, Repeated, Optiona
 use Rattle.sql_phrases.specs.NameRules.{IsIdentifier, IsObjectName, IsIdentifiers, IsColumns, no_columns, columns}
 use Rattle.sql_phrases.specs.NameParsers.{sees_name}
 use Rattle.sql_phrases.specs.NameParsers as names
-use Rattle.sql_phrases.specs.TypeRules as types
-use Rattle.sql_phrases.specs.TypeRules.{IsType, IsDefault, IsSpecial, IsNumber, IsBracketed, IsSize, IsPrecision}
+use Rattle.sql_phrases.specs.TypeRules.{IsType, IsDefault}
 use Rattle.sql_grammar.specs.TableRules.{IsRule, cascade, set_null, set_default, restrict, no_action, IsRules, no_rules, on_delete, on_update, on_delete_update, on_update_delete, IsMatching, no_match, simple, full, partial, IsReferences, references, IsColumnConstraint, primary_key, unique, refers, IsColumnOption, default_option, not_null, constraint, has_one_default, IsColumnType, of_type, of_domain, IsColumnDefinition, column_definition, IsColumnList, column_list, IsTableConstraintKind, primary_key_of, unique_of, foreign_key_of, IsTableConstraint, table_constraint, IsTableElement, column, table_constraint_element, IsTableElements, table_elements}
 use Rattle.sql_phrases.specs.Parsers.{separated, repeated}
 use Rattle.sql_grammar.specs.TableParsers as parse
@@ -32,27 +30,10 @@ use Rattle.sql_grammar.specs.TableParsers.{begins_option}
 use Rattle.sql_phrases.proofs.Follow.{follows, continues, Below, below_more, passes, sees_differs, sees_other}
 use Rattle.sql_phrases.proofs.Lists.{Gives, gives_none, gives_some, gives_then, gives_weaker, gives_if, after_not, token_next, gives_eat, gives_expect, expect_at, sees_at, after_at, next_at, peek_at, below_token, shorter_token, shorter_spelled, Parses, separated_parses, repeated_complete, repeated_sound, repeated_shorter, below_repeated, optional_complete, optional_sound}
 use Rattle.sql_phrases.proofs.NameProofs.{identifier_at, gives_identifier, identifier_begins, identifier_shorter, object_name_at, gives_object_name, object_name_begins, object_name_shorter, identifiers_parse, columns_at, gives_columns, columns_shorter}
+use Rattle.sql_phrases.proofs.TypeLengths.{default_shorter, type_shorter, type_reserved}
 use Rattle.sql_phrases.proofs.TypeProofs.{type_at, gives_type, default_at, gives_default}
 
 -- ---- lengths
-
-special_shorter : {s : Special} {ws rest : List Word} → IsSpecial s ws rest → length rest < length ws
-special_shorter (types.current_user t) = shorter_token t
-special_shorter (types.current_date t) = shorter_token t
-special_shorter (types.current_time t) = shorter_token t
-special_shorter (types.current_timestamp t) = shorter_token t
-
-default_shorter : {d : Default} {ws rest : List Word} → IsDefault d ws rest → length rest < length ws
-default_shorter (types.literal s) = shorter_spelled s
-default_shorter (types.number absent s) = shorter_spelled s
-default_shorter (types.number (present t) s) = omega (arith, shorter_token t, shorter_spelled s)
-default_shorter (types.true_word t) = shorter_token t
-default_shorter (types.false_word t) = shorter_token t
-default_shorter (types.null t) = shorter_token t
-default_shorter (types.special s) = special_shorter s
-
-number_shorter : {low high n : ℕ} {ws rest : List Word} → IsNumber low high n ws rest → length rest < length ws
-number_shorter (types.number s d lo hi) = shorter_spelled s
 
 rule_shorter : {r : Rule} {ws rest : List Word} → IsRule r ws rest → length rest < length ws
 rule_shorter (cascade t) = shorter_token t
@@ -370,58 +351,9 @@ type_ends : (ws : List Word) → Below continues 11 ws → Below follows 10 ws
 type_ends ws s = record { below = type_ends_by (peek ws) s.below }
 
 module _ (m : ℕ) where
-  bracketed_shorter : {low high n : ℕ} {ws rest : List Word} → IsBracketed m low high n ws rest → length rest < length ws
-  bracketed_shorter (types.bracketed lt l n r) = omega (arith, shorter_token l, number_shorter n, shorter_token r)
-
-  size_shorter : {without low high n : ℕ} {ws rest : List Word} → IsSize m without low high n ws rest → length rest ≤ length ws
-  size_shorter types.size_unsaid = omega arith
-  size_shorter (types.size b) = omega (arith, bracketed_shorter b)
-
-  precision_shorter : {p s : ℕ} {ws rest : List Word} → IsPrecision m p s ws rest → length rest ≤ length ws
-  precision_shorter types.precision_unsaid = omega arith
-  precision_shorter (types.precision b) = omega (arith, bracketed_shorter b)
-  precision_shorter (types.with_scale lt l n c q r) = omega (arith, shorter_token l, number_shorter n, shorter_token c, number_shorter q, shorter_token r)
-
-  type_shorter : {t : SqlType} {ws rest : List Word} → IsType m t ws rest → length rest < length ws
-  type_shorter (types.character (types.character_word t) n) = omega (arith, shorter_token t, size_shorter n)
-  type_shorter (types.character (types.char_word t) n) = omega (arith, shorter_token t, size_shorter n)
-  type_shorter (types.varchar t b) = omega (arith, shorter_token t, bracketed_shorter b)
-  type_shorter (types.varying (types.character_word t) v b) = omega (arith, shorter_token t, shorter_token v, bracketed_shorter b)
-  type_shorter (types.varying (types.char_word t) v b) = omega (arith, shorter_token t, shorter_token v, bracketed_shorter b)
-  type_shorter (types.numeric t p) = omega (arith, shorter_token t, precision_shorter p)
-  type_shorter (types.decimal (types.decimal_word t) p) = omega (arith, shorter_token t, precision_shorter p)
-  type_shorter (types.decimal (types.dec_word t) p) = omega (arith, shorter_token t, precision_shorter p)
-  type_shorter (types.smallint t) = shorter_token t
-  type_shorter (types.integer t) = shorter_token t
-  type_shorter (types.int t) = shorter_token t
-  type_shorter (types.bigint t) = shorter_token t
-  type_shorter (types.boolean t) = shorter_token t
-  type_shorter (types.date t) = shorter_token t
-  type_shorter (types.time t n) = omega (arith, shorter_token t, size_shorter n)
-  type_shorter (types.timestamp t n) = omega (arith, shorter_token t, size_shorter n)
-
-  type_reserved : {t : SqlType} {ws rest : List Word} → IsType m t ws rest → is_name (peek ws) ≡ false
-  unfolding is_name same_kind
-  type_reserved (types.character (types.character_word t) n) = rw (peek_at t) refl
-  type_reserved (types.character (types.char_word t) n) = rw (peek_at t) refl
-  type_reserved (types.varchar t b) = rw (peek_at t) refl
-  type_reserved (types.varying (types.character_word t) v b) = rw (peek_at t) refl
-  type_reserved (types.varying (types.char_word t) v b) = rw (peek_at t) refl
-  type_reserved (types.numeric t p) = rw (peek_at t) refl
-  type_reserved (types.decimal (types.decimal_word t) p) = rw (peek_at t) refl
-  type_reserved (types.decimal (types.dec_word t) p) = rw (peek_at t) refl
-  type_reserved (types.smallint t) = rw (peek_at t) refl
-  type_reserved (types.integer t) = rw (peek_at t) refl
-  type_reserved (types.int t) = rw (peek_at t) refl
-  type_reserved (types.bigint t) = rw (peek_at t) refl
-  type_reserved (types.boolean t) = rw (peek_at t) refl
-  type_reserved (types.date t) = rw (peek_at t) refl
-  type_reserved (types.time t n) = rw (peek_at t) refl
-  type_reserved (types.timestamp t n) = rw (peek_at t) refl
-
   column_type_at : {x : ColumnType} {ws rest : List Word} → IsColumnType m x ws rest → Below continues 11 rest → parse.column_type m ws ≡ Some (x, rest)
   unfolding parse.column_type sees_name
-  column_type_at {rest = rest} (of_type t) s = rw (type_reserved t, type_at m t (type_ends rest s))
+  column_type_at {rest = rest} (of_type t) s = rw (type_reserved m t, type_at m t (type_ends rest s))
   column_type_at {rest = rest} (of_domain o) s = rw (object_name_begins o, object_name_at o (passes continues 11 k.Period rest s (lit≤ tt)))
 
   gives_column_type : {ws : List Word} → Gives (parse.column_type m ws) (λ x a. IsColumnType m x ws a)
@@ -431,7 +363,7 @@ module _ (m : ℕ) where
       (λ _. gives_then (gives_type m) (λ t a is. gives_some (of_type is)))
 
   column_type_shorter : {x : ColumnType} {ws rest : List Word} → IsColumnType m x ws rest → length rest < length ws
-  column_type_shorter (of_type t) = type_shorter t
+  column_type_shorter (of_type t) = type_shorter m t
   column_type_shorter {ws = ws} {rest = rest} (of_domain o) = object_name_shorter _ ws rest o
 
   pub column_definition_at : {x : ColumnDefinition} {ws rest : List Word} → IsColumnDefinition m x ws rest → Below continues 10 rest → parse.column_definition m ws ≡ Some (x, rest)

@@ -5,3 +5,4 @@ pub mod Numbers
 pub mod Turns
 pub mod NameProofs
 pub mod TypeProofs
+pub mod TypeLengths
