@@ -3,3 +3,4 @@ pub mod ExpressionRules
 pub mod QueryParsers
 pub mod ExpressionParsers
 pub mod Nests
+pub mod Depth
