@@ -81,9 +81,9 @@ peak_bracket {c = c} (token {w = u} {rest = a} h) p (token {w = x} {rest = rest}
       splits = ap (λ l. u ∷ l) (p.splits ∙ sym (append_assoc p.front (x ∷ []) rest));
       closes = λ n. behind_append (open_after (kind_of u) n) p.front (x ∷ []) ∙ ap (open_after (kind_of x)) (inside n) ∙ behind n;
       most = λ n. (
-        let e = most_append (open_after (kind_of u) n) p.front (x ∷ []) in
-        let f : open_after (kind_of x) (open_behind (open_after (kind_of u) n) p.front) ≡ n = ap (open_after (kind_of x)) (inside n) ∙ behind n in
-        omega (arith, e, f, inside n, before n, p.most (open_after (kind_of u) n)));
+          let e = most_append (open_after (kind_of u) n) p.front (x ∷ []) in
+          let f : open_after (kind_of x) (open_behind (open_after (kind_of u) n) p.front) ≡ n = ap (open_after (kind_of x)) (inside n) ∙ behind n in
+          omega (arith, e, f, inside n, before n, p.most (open_after (kind_of u) n)));
     }
 
 -- What holds of words wherever as many brackets may be open as are.

@@ -1,5 +1,5 @@
 -- Expressions and queries within a number of open brackets: what is read is spelled so, and what is spelled so is read.
-use Rattle.std.proofs.Common.{◌≡◌, ℕ, zero, suc, ◌<◌, Bool, true, List, length, Some, None, refl, sym, ◌∙◌}
+use Rattle.std.proofs.Common.{◌≡◌, ℕ, zero, suc, ◌<◌, Bool, true, List, [], length, Some, None, refl, sym, ◌∙◌, lit<}
 use Rattle.std.proofs.lemmas.Option.{some_pair_parts}
 use Rattle.sql_tree.specs.declared.expr.Expr.{Expr}
 use Rattle.sql_tree.specs.declared.expr.Query.{Query}
@@ -13,8 +13,9 @@ use Rattle.sql_expressions.specs.QueryParsers.{sees_qualified_star}
 use Rattle.sql_expressions.specs.QueryParsers as queries
 use Rattle.sql_expressions.specs.ExpressionRules.{IsExprWithin, IsQueryWithin}
 use Rattle.sql_expressions.specs.ExpressionParsers.{expr_within, query_within}
+use Rattle.sql_expressions.specs.Laws.{ReadsOnlySpelled, ReadsAllSpelled, IsUnambiguous}
 use Rattle.sql_phrases.proofs.Follow.{Below}
-use Rattle.sql_phrases.proofs.Lists.{gives_none, Parses}
+use Rattle.sql_phrases.proofs.Lists.{Gives, gives_none, Parses}
 use Rattle.sql_expressions.proofs.Binding.{binds, opens}
 use Rattle.sql_expressions.proofs.QueryProofs.{query_parses, query_begins}
 use Rattle.sql_expressions.proofs.ExpressionProofs.{expr_parses, expr_begins, expr_none}
@@ -58,3 +59,15 @@ unfolding IsQueryWithin
 query_within_begins value zero q ws rest r = absurd r
 query_within_begins value (suc n) q ws rest r =
     let o = reading value (suc n) in query_begins (expr_within value (suc n)) (IsExprWithin value (suc n)) o.parses o.begun o.never_star r
+
+-- ---- what is read to the end of the words
+
+module _ {A : Type 0} {p : Parser A} {R : Spelled A} {b : ℕ} (c : Parses binds p R b) (some : 0 < b) where
+  pub only_spelled : ReadsOnlySpelled p R
+  only_spelled ws rest x h = (c.sound ws).given x rest h
+
+  pub all_spelled : ReadsAllSpelled p R
+  all_spelled ws x r = c.complete x ws [] r (record { below = some })
+
+  pub unambiguous : IsUnambiguous R
+  unambiguous ws x y r s = (some_pair_parts x y [] [] (sym (all_spelled ws x r) ∙ all_spelled ws y s)).0

@@ -4,3 +4,4 @@ pub mod QueryParsers
 pub mod ExpressionParsers
 pub mod Nests
 pub mod Depth
+pub mod Laws

@@ -28,7 +28,8 @@ impl<F: Fn(Global, &mut Reader<'_>, usize, bool) -> Result<Expr, GrammarError>> 
     }
 }
 
-/// An expression, `<value expression>` or `<search condition>` of SQL:2003: the longest one that begins the words.
+/// An expression, `<value expression>` or `<search condition>` of SQL:2003, with which the words begin. It ends before the first
+/// word that can't go on with it, so `A = B C` leaves `C`, and `A AND` gives `Syntax`.
 ///
 /// Fewer than `depth` brackets may be open at one word, where a CASE counts as a bracket up to its END. VALUE stands for the
 /// value that a domain's check is on where `value`, and gives `Syntax` elsewhere. Each word is read once.
@@ -52,8 +53,8 @@ pub fn expr(
     .expression(words)
 }
 
-/// A query, `<query expression>` of SQL:2003 without WITH, ORDER BY and parentheses around a SELECT: the longest one that
-/// begins the words. UNION and EXCEPT group to the left.
+/// A query, `<query expression>` of SQL:2003 without WITH and without brackets around a SELECT, with which the words begin. It
+/// ends before the first word that can't go on with it. UNION and EXCEPT group to the left.
 ///
 /// `depth` and `value` are those of `expr`.
 pub fn query(
