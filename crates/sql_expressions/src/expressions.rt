@@ -171,12 +171,12 @@ impl<F: Fn(Global, &mut Reader<'_>, usize, bool) -> Result<Expr, GrammarError>> 
         match words.peek() {
             Kind::Between => {
                 words.take();
-                Ok(self.between(words, negated)?)
+                self.between(words, negated)
             }
             Kind::In => {
                 words.take();
                 words.open(self.depth)?;
-                Ok(self.members(words, negated)?)
+                self.members(words, negated)
             }
             Kind::Like => {
                 words.take();
@@ -224,7 +224,7 @@ impl<F: Fn(Global, &mut Reader<'_>, usize, bool) -> Result<Expr, GrammarError>> 
                 let test = self.test(words, false)?;
                 Ok(Some(Boxed::new(self.alloc, test)?))
             }
-            kind => Ok(self.compared(words, kind)?),
+            kind => self.compared(words, kind),
         }
     }
 

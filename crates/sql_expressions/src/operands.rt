@@ -95,7 +95,7 @@ impl<F: Fn(Global, &mut Reader<'_>, usize, bool) -> Result<Expr, GrammarError>> 
         if words.eat(Kind::RightParen) {
             Ok(Items::new(self.alloc))
         } else {
-            Ok(self.closed_list(words)?)
+            self.closed_list(words)
         }
     }
 
@@ -148,7 +148,7 @@ impl<F: Fn(Global, &mut Reader<'_>, usize, bool) -> Result<Expr, GrammarError>> 
         if self.depth == 0 {
             return Err(GrammarError::Syntax);
         }
-        Ok(words.expect(Kind::Case)?)
+        words.expect(Kind::Case)
     }
 
     #[tactic(auto, unfolding(crate::specs::ExpressionParsers::case_when))]
@@ -240,7 +240,7 @@ impl<F: Fn(Global, &mut Reader<'_>, usize, bool) -> Result<Expr, GrammarError>> 
     {
         words.take();
         words.open(self.depth)?;
-        Ok(self.counted(words)?)
+        self.counted(words)
     }
 
     // What stands after a bracket where an operand may stand.
@@ -280,9 +280,9 @@ impl<F: Fn(Global, &mut Reader<'_>, usize, bool) -> Result<Expr, GrammarError>> 
         ensures { Reads (spec.named_or_constant self.now.value (expr_within self.now.value self.now.depth) self.now.depth words.old) result words.new }
     {
         if sees_name(words) {
-            Ok(self.named(words)?)
+            self.named(words)
         } else {
-            Ok(constant(words, self.value)?)
+            constant(words, self.value)
         }
     }
 
@@ -296,17 +296,17 @@ impl<F: Fn(Global, &mut Reader<'_>, usize, bool) -> Result<Expr, GrammarError>> 
             Kind::Number => Ok(Operand::Number(Text::of(self.alloc, words.take())?)),
             Kind::LeftParen => {
                 words.open(self.depth)?;
-                Ok(self.bracketed(words)?)
+                self.bracketed(words)
             }
-            Kind::Count => Ok(self.count(words)?),
-            Kind::Sum => Ok(self.aggregate(words, Aggregate::Sum)?),
-            Kind::Min => Ok(self.aggregate(words, Aggregate::Min)?),
-            Kind::Max => Ok(self.aggregate(words, Aggregate::Max)?),
-            Kind::Avg => Ok(self.aggregate(words, Aggregate::Avg)?),
-            Kind::Case => Ok(self.case_when(words)?),
-            Kind::Cast => Ok(self.cast(words)?),
-            Kind::Exists => Ok(self.exists(words)?),
-            _ => Ok(self.named_or_constant(words)?),
+            Kind::Count => self.count(words),
+            Kind::Sum => self.aggregate(words, Aggregate::Sum),
+            Kind::Min => self.aggregate(words, Aggregate::Min),
+            Kind::Max => self.aggregate(words, Aggregate::Max),
+            Kind::Avg => self.aggregate(words, Aggregate::Avg),
+            Kind::Case => self.case_when(words),
+            Kind::Cast => self.cast(words),
+            Kind::Exists => self.exists(words),
+            _ => self.named_or_constant(words),
         }
     }
 }

@@ -56,7 +56,7 @@ fn grouping(alloc: Global, words: &mut Reader<'_>) -> Result<Items<Reference>, G
 {
     if words.eat(Kind::Group) {
         words.expect(Kind::By)?;
-        Ok(references(alloc, words)?)
+        references(alloc, words)
     } else {
         Ok(Items::new(alloc))
     }
@@ -66,9 +66,7 @@ fn grouping(alloc: Global, words: &mut Reader<'_>) -> Result<Items<Reference>, G
 fn alias(alloc: Global, words: &mut Reader<'_>) -> Result<Option<Name>, GrammarError>
     ensures { Reads (spec.alias words.old) result words.new }
 {
-    if words.eat(Kind::As) {
-        Ok(Some(identifier(alloc, words)?))
-    } else if sees_name(words) {
+    if words.eat(Kind::As) || sees_name(words) {
         Ok(Some(identifier(alloc, words)?))
     } else {
         Ok(None)
@@ -155,9 +153,9 @@ impl<F: Fn(Global, &mut Reader<'_>, usize, bool) -> Result<Expr, GrammarError>> 
         ensures { Reads (spec.select_item (expr_within self.now.value self.now.depth) words.old) result words.new }
     {
         if sees_qualified_star(words) {
-            Ok(qualified_star(self.alloc, words)?)
+            qualified_star(self.alloc, words)
         } else {
-            Ok(self.expr_item(words)?)
+            self.expr_item(words)
         }
     }
 
@@ -208,12 +206,12 @@ impl<F: Fn(Global, &mut Reader<'_>, usize, bool) -> Result<Expr, GrammarError>> 
         match words.peek() {
             Kind::Join => {
                 words.take();
-                Ok(self.inner_join(words)?)
+                self.inner_join(words)
             }
             Kind::Inner => {
                 words.take();
                 words.expect(Kind::Join)?;
-                Ok(self.inner_join(words)?)
+                self.inner_join(words)
             }
             Kind::Cross => {
                 words.take();
