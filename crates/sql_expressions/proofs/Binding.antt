@@ -1,5 +1,5 @@
 -- How words hold together in queries and expressions.
-use Rattle.std.proofs.Common.{◌≡◌, ◌<◌, ℕ, Bool, true, false, List, refl, arith}
+use Rattle.std.proofs.Common.{◌≡◌, ℕ, Bool, true, false, List, refl, arith}
 use Rattle.std.specs.Prelude.{nat_lt, ◌||◌, if◌then◌else◌}
 use denote.Enum.Bare.{sameb}
 use Rattle.sql_words.specs.Kinds.{is_name, same_kind, number_of}

@@ -1,5 +1,5 @@
 -- The brackets of expressions and queries are counted: as many may be open as are open at one word.
-use Rattle.std.proofs.Common.{◌≡◌, ◌<◌, ◌≤◌, ◌-◌, ◌++◌, ℕ, zero, suc, Bool, true, List, [], ◌∷◌, length, Option, None, refl, sym, ap, ◌∙◌, subst, arith}
+use Rattle.std.proofs.Common.{◌≡◌, ◌<◌, ◌-◌, ◌++◌, ℕ, zero, suc, Bool, List, Option, refl, sym, ap, subst, arith}
 use Rattle.std.proofs.lemmas.List.{append_cancel_right}
 use Rattle.sql_tree.specs.declared.column.ObjectName.{ObjectName}
 use Rattle.sql_tree.specs.declared.column.Reference.{Reference}
@@ -30,10 +30,9 @@ use Rattle.sql_tree.specs.declared.expr.Tail.{Tail}
 use Rattle.sql_tree.specs.declared.expr.Term.{Term}
 use Rattle.sql_tree.specs.declared.sort.Special.{Special}
 use Rattle.sql_tree.specs.declared.sort.SqlType.{SqlType}
-use Rattle.sql_words.specs.declared.kind.Kind.{Kind}
 use Rattle.sql_words.specs.declared.kind.Kind.TheVariants as k
 use Rattle.sql_words.specs.declared.word.Word.{Word}
-use Rattle.sql_phrases.specs.Shapes.{Spelled, Token, Separated, one, more, Repeated, Optional}
+use Rattle.sql_phrases.specs.Shapes.{Spelled, Token, Separated, one, more, Optional}
 use Rattle.sql_phrases.specs.NameRules.{IsObjectName}
 use Rattle.sql_phrases.specs.NameRules as names
 use Rattle.sql_phrases.specs.TypeRules as types

@@ -7,7 +7,7 @@ use Rattle.sql_words.specs.declared.kind.Kind.{Kind}
 use Rattle.sql_words.specs.declared.kind.Kind.TheVariants as k
 use Rattle.sql_words.specs.declared.word.Word.{Word}
 use Rattle.sql_phrases.specs.Shapes.{Spelled, Token, token, Spells, spells, Separated, one, more, Repeated, no_more, again, Optional, left_out, said, Marked, absent, present}
-use Rattle.sql_phrases.specs.NameRules.{IsIdentifier, identifier, IsObjectName, unqualified, qualified}
+use Rattle.sql_phrases.specs.NameRules.{IsIdentifier, identifier}
 use Rattle.sql_expressions.specs.Depth.{open_after, open_behind, most_open}
 
 behind_append : (n : ℕ) (f g : List Word) → open_behind n (f ++ g) ≡ open_behind (open_behind n f) g

@@ -1,5 +1,5 @@
 -- Expressions: what is read is spelled so, and what is spelled so is read.
-use Rattle.std.proofs.Common.{◌≡◌, ℕ, ◌<◌, ◌≤◌, ◌-◌, Bool, true, false, List, [], ◌∷◌, length, Option, Some, None, refl, ap, ◌∙◌, subst, arith, lit<, lit≤}
+use Rattle.std.proofs.Common.{◌≡◌, ℕ, ◌<◌, ◌≤◌, ◌-◌, Bool, true, false, List, length, Option, Some, None, refl, ap, subst, arith, lit<, lit≤}
 use Rattle.std.specs.Prelude.{◌==◌, option_map, if◌then◌else◌}
 use Rattle.std.proofs.lemmas.Bool.{ne_eqb, eqb-false}
 use Rattle.sql_tree.specs.declared.column.ObjectName.{ObjectName}
@@ -7,7 +7,6 @@ use Rattle.sql_tree.specs.declared.expr.Added.{Added}
 use Rattle.sql_tree.specs.declared.expr.Additive.{Additive}
 use Rattle.sql_tree.specs.declared.expr.Additive.TheVariants as additives
 use Rattle.sql_tree.specs.declared.expr.Aggregate.{Aggregate}
-use Rattle.sql_tree.specs.declared.expr.Aggregate.TheVariants as aggregates
 use Rattle.sql_tree.specs.declared.expr.Arm.{Arm}
 use Rattle.sql_tree.specs.declared.expr.Comparison.{Comparison}
 use Rattle.sql_tree.specs.declared.expr.Comparison.TheVariants as comparisons
@@ -32,14 +31,14 @@ use Rattle.sql_words.specs.declared.word.Word.{Word}
 use Rattle.sql_words.specs.declared.kind.Kind.{Kind}
 use Rattle.sql_words.specs.declared.kind.Kind.TheVariants as k
 use Rattle.sql_phrases.specs.Reading.{peek, next, sees, after}
-use Rattle.sql_phrases.specs.Shapes.{Spelled, Token, Spells, Separated, Repeated, Optional, Marked, absent, present}
+use Rattle.sql_phrases.specs.Shapes.{Spelled, Token, Separated, Marked, absent, present}
 use Rattle.sql_phrases.specs.NameRules.{IsObjectName}
 use Rattle.sql_phrases.specs.NameRules as names
 use Rattle.sql_phrases.specs.NameParsers.{sees_name}
 use Rattle.sql_phrases.specs.TypeRules.{IsSpecial}
 use Rattle.sql_phrases.specs.TypeRules as types
 use Rattle.sql_phrases.specs.TypeParsers.{special_by}
-use Rattle.sql_phrases.specs.Parsers.{Parser, separated, repeated, optional, expect, opening}
+use Rattle.sql_phrases.specs.Parsers.{Parser, separated}
 use Rattle.sql_expressions.specs.QueryRules.{IsReference, IsQuery}
 use Rattle.sql_expressions.specs.QueryRules as queries
 use Rattle.sql_expressions.specs.QueryParsers as queries_of
@@ -47,7 +46,7 @@ use Rattle.sql_expressions.specs.QueryParsers.{sees_qualified_star}
 use Rattle.sql_expressions.specs.ExpressionRules.{IsComparison, equal, not_equal, less, less_or_equal, greater, greater_or_equal, IsAdditive, plus, minus, concatenation, IsMultiplicative, times, divided, IsAggregate, count, sum_of, min, max, avg, IsArguments, no_arguments, arguments, IsArm, arm, IsCastOperand, cast_null, cast_expr, IsOperand, literal, number, true_word, false_word, special, value_word, reference, call, count_all, aggregate, case_when, cast, exists, subquery, parenthesized, IsFactor, factor, IsMultiplied, multiplied, IsTerm, term, IsAdded, added, IsSum, sum, IsTail, compare, is_null, between, in_query, in_list, like, IsPredicate, untested, tested, IsNegation, negation, IsConjunction, conjunction, IsExpr, expr}
 use Rattle.sql_expressions.specs.ExpressionParsers as parse
 use Rattle.sql_expressions.specs.ExpressionParsers.{comparison_of, additive_of, begins_added, multiplicative_of, begins_multiplied, constant_of, case_opening}
-use Rattle.sql_phrases.proofs.Follow.{follows, Below, below_more, passes, sees_no, sees_is, sees_differs, sees_other}
+use Rattle.sql_phrases.proofs.Follow.{follows, Below, below_more, passes, sees_no, sees_differs, sees_other}
 use Rattle.sql_phrases.proofs.Lists.{Gives, gives_none, gives_some, gives_then, gives_if, gives_weaker, token_next, spells_at, after_not, gives_eat, gives_expect, expect_at, sees_at, after_at, next_at, peek_at, peek_spelled, next_spelled, spelling_at, below_token, shorter_token, shorter_spelled, Parses, separated_parses, separated_none, separated_begins, below_repeated, repeated_complete, repeated_sound, repeated_shorter, optional_complete, optional_sound, optional_below}
 use Rattle.sql_phrases.proofs.Marks.{marked_at, marked_seen, marked_shorter}
 use Rattle.sql_phrases.proofs.NameProofs.{object_name_at, gives_object_name, object_name_begins, object_name_shorter}

@@ -1,5 +1,5 @@
 -- Queries: what is read is spelled so, and what is spelled so is read.
-use Rattle.std.proofs.Common.{◌≡◌, ℕ, ◌<◌, ◌≤◌, Bool, true, false, List, [], ◌∷◌, length, Option, Some, None, refl, subst, arith, lit<, lit≤}
+use Rattle.std.proofs.Common.{◌≡◌, ℕ, ◌<◌, ◌≤◌, Bool, true, false, List, length, Option, Some, None, refl, subst, arith, lit<, lit≤}
 use Rattle.std.proofs.lemmas.Bool.{and_parts}
 use denote.Enum.Bare.{sameb}
 use Rattle.sql_tree.specs.declared.column.ObjectName.{ObjectName}
@@ -25,14 +25,14 @@ use Rattle.sql_phrases.specs.Shapes.{Spelled, Token, Separated, Repeated, Option
 use Rattle.sql_phrases.specs.NameRules.{IsIdentifier, IsObjectName}
 use Rattle.sql_phrases.specs.NameRules as names
 use Rattle.sql_phrases.specs.NameParsers.{sees_name, fits_name, object_name, identifier, name_next}
-use Rattle.sql_phrases.specs.Parsers.{Parser, separated, repeated, optional}
+use Rattle.sql_phrases.specs.Parsers.{Parser, separated, repeated}
 use Rattle.sql_expressions.specs.QueryRules.{IsReference, unqualified, qualified, IsAlias, no_alias, alias, IsTableReference, table_reference, IsQuantifier, no_quantifier, all, distinct, IsSetOperator, union, except, IsGrouping, no_grouping, group_by, IsSelectItem, expr_item, qualified_star, IsSelectList, star, listed, IsJoin, inner_join, cross_join, IsChain, chain, IsSelect, select, IsFurther, further, IsQuery, query}
 use Rattle.sql_expressions.specs.QueryParsers as parse
 use Rattle.sql_expressions.specs.QueryParsers.{reference_of, sees_qualified_star, begins_join, begins_further, set_operator_of}
-use Rattle.sql_phrases.proofs.Follow.{Below, below_more, passes, sees_no, sees_is, sees_differs, sees_other}
-use Rattle.sql_phrases.proofs.Lists.{Gives, gives_none, gives_some, gives_then, gives_if, gives_weaker, token_seen, token_next, after_not, gives_eat, gives_ate, gives_expect, expect_at, sees_at, after_at, next_at, peek_at, below_token, shorter_token, Parses, separated_parses, separated_begins, below_repeated, repeated_complete, repeated_sound, repeated_shorter, optional_complete, optional_sound, optional_below}
+use Rattle.sql_phrases.proofs.Follow.{Below, below_more, passes, sees_no, sees_is, sees_other}
+use Rattle.sql_phrases.proofs.Lists.{Gives, gives_none, gives_some, gives_then, gives_if, gives_weaker, token_next, after_not, gives_eat, gives_ate, gives_expect, expect_at, sees_at, after_at, next_at, peek_at, below_token, shorter_token, Parses, separated_parses, separated_begins, below_repeated, repeated_complete, repeated_sound, repeated_shorter, optional_complete, optional_sound, optional_below}
 use Rattle.sql_phrases.proofs.Marks.{marked_at, marked_seen, marked_shorter}
-use Rattle.sql_phrases.proofs.NameProofs.{identifier_at, gives_identifier, identifier_begins, identifier_next, identifier_never, identifier_shorter, object_name_at, gives_object_name, object_name_begins, object_name_shorter}
+use Rattle.sql_phrases.proofs.NameProofs.{identifier_at, gives_identifier, identifier_begins, identifier_next, identifier_never, identifier_shorter, object_name_at, gives_object_name, object_name_shorter}
 use Rattle.sql_expressions.proofs.Binding.{binds, opens, name_binds, name_opens, not_named}
 
 -- ---- ref := name | name . name

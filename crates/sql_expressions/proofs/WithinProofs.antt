@@ -1,5 +1,5 @@
 -- Expressions and queries within a number of open brackets: what is read is spelled so, and what is spelled so is read.
-use Rattle.std.proofs.Common.{◌≡◌, ℕ, zero, suc, ◌<◌, Bool, true, List, [], length, Some, None, refl, sym, ◌∙◌, lit<}
+use Rattle.std.proofs.Common.{◌≡◌, ℕ, zero, suc, ◌<◌, Bool, true, List, [], None, refl, sym, ◌∙◌}
 use Rattle.std.proofs.lemmas.Option.{some_pair_parts}
 use Rattle.sql_tree.specs.declared.expr.Expr.{Expr}
 use Rattle.sql_tree.specs.declared.expr.Query.{Query}
@@ -8,14 +8,11 @@ use Rattle.sql_words.specs.declared.kind.Kind.TheVariants as k
 use Rattle.sql_phrases.specs.Reading.{peek}
 use Rattle.sql_phrases.specs.Shapes.{Spelled}
 use Rattle.sql_phrases.specs.Parsers.{Parser}
-use Rattle.sql_expressions.specs.QueryRules.{IsQuery}
 use Rattle.sql_expressions.specs.QueryParsers.{sees_qualified_star}
-use Rattle.sql_expressions.specs.QueryParsers as queries
 use Rattle.sql_expressions.specs.ExpressionRules.{IsExprWithin, IsQueryWithin}
 use Rattle.sql_expressions.specs.ExpressionParsers.{expr_within, query_within}
 use Rattle.sql_expressions.specs.Laws.{ReadsOnlySpelled, ReadsAllSpelled, IsUnambiguous}
-use Rattle.sql_phrases.proofs.Follow.{Below}
-use Rattle.sql_phrases.proofs.Lists.{Gives, gives_none, Parses}
+use Rattle.sql_phrases.proofs.Lists.{gives_none, Parses}
 use Rattle.sql_expressions.proofs.Binding.{binds, opens}
 use Rattle.sql_expressions.proofs.QueryProofs.{query_parses, query_begins}
 use Rattle.sql_expressions.proofs.ExpressionProofs.{expr_parses, expr_begins, expr_none}

@@ -1,12 +1,9 @@
 -- How many brackets are open in words. CASE and BEGIN open one as well, which END closes.
-use Rattle.std.specs.Prelude.{◌≡◌, ◌<◌, ◌-◌, ◌++◌, max, ℕ, suc, Bool, List, [], ◌∷◌}
-use Rattle.sql_tree.specs.declared.expr.Expr.{Expr}
-use Rattle.sql_tree.specs.declared.expr.Query.{Query}
+use Rattle.std.specs.Prelude.{◌-◌, max, ℕ, suc, List, [], ◌∷◌}
 use Rattle.sql_words.specs.Kinds.{kind_of}
 use Rattle.sql_words.specs.declared.kind.Kind.{Kind}
 use Rattle.sql_words.specs.declared.kind.Kind.TheVariants as k
 use Rattle.sql_words.specs.declared.word.Word.{Word}
-use Rattle.sql_expressions.specs.ExpressionRules.{IsExprWithin, IsQueryWithin}
 
 -- how many are open behind a word of this kind, where this many are open before it
 abbrev pub open_after : Kind → ℕ → ℕ

@@ -1,6 +1,5 @@
 -- Reading expressions.
-use Rattle.std.specs.Prelude.{ℕ, zero, suc, ◌-◌, Bool, true, false, ◌==◌, List, [], ◌∷◌, Option, Some, None, if◌then◌else◌, option_map}
-use Rattle.sql_tree.specs.declared.column.ObjectName.{ObjectName}
+use Rattle.std.specs.Prelude.{ℕ, zero, suc, ◌-◌, Bool, true, false, ◌==◌, List, [], Option, Some, None, if◌then◌else◌, option_map}
 use Rattle.sql_tree.specs.declared.expr.Added.{Added, roll-Added}
 use Rattle.sql_tree.specs.declared.expr.Additive.{Additive}
 use Rattle.sql_tree.specs.declared.expr.Additive.TheVariants as additives
@@ -26,9 +25,8 @@ use Rattle.sql_tree.specs.declared.expr.Tail.TheVariants as tails
 use Rattle.sql_tree.specs.declared.expr.Term.{Term, roll-Term}
 use Rattle.sql_words.specs.declared.kind.Kind.{Kind}
 use Rattle.sql_words.specs.declared.kind.Kind.TheVariants as k
-use Rattle.sql_words.specs.declared.word.Word.{Word}
 use Rattle.sql_phrases.specs.Reading.{peek, sees}
-use Rattle.sql_phrases.specs.Parsers.{Outcome, Parser, and_then, ◌>>=◌, ◌>>◌, ◌<$>◌, pure, refuse, skip, take_text, eat, expect, opening, separated, repeated, optional}
+use Rattle.sql_phrases.specs.Parsers.{Parser, ◌>>=◌, ◌>>◌, ◌<$>◌, pure, refuse, skip, take_text, eat, expect, opening, separated, repeated, optional}
 use Rattle.sql_phrases.specs.NameParsers.{object_name, sees_name}
 use Rattle.sql_phrases.specs.TypeParsers.{sql_type, special_by}
 use Rattle.sql_expressions.specs.QueryParsers.{reference_of, query}

@@ -1,5 +1,5 @@
 -- Queries. Each rule relates what is spelled, the words that begin with it, and the words after it.
-use Rattle.std.specs.Prelude.{◌≡◌, ℕ, Bool, true, false, List, [], ◌∷◌, Option, Some, None}
+use Rattle.std.specs.Prelude.{ℕ, Bool, true, false, List, [], Option, Some, None}
 use Rattle.sql_tree.specs.declared.column.ObjectName.{ObjectName}
 use Rattle.sql_tree.specs.declared.column.Reference.{Reference}
 use Rattle.sql_tree.specs.declared.column.Reference.TheVariants as references
