@@ -1,0 +1,4 @@
+pub mod Binding
+pub mod QueryProofs
+pub mod ExpressionProofs
+pub mod WithinProofs
