@@ -1,5 +1,5 @@
 -- Reading tables.
-use Rattle.std.specs.Prelude.{ℕ, Bool, true, false, List, [], ◌∷◌, Option, Some, None, if◌then◌else◌}
+use Rattle.std.specs.Prelude.{ℕ, Bool, true, false, List, Some, None, if◌then◌else◌}
 use Rattle.sql_tree.specs.declared.table.ColumnConstraint.{ColumnConstraint}
 use Rattle.sql_tree.specs.declared.table.ColumnConstraint.TheVariants as constraints
 use Rattle.sql_tree.specs.declared.table.ColumnDefinition.{ColumnDefinition}
@@ -19,14 +19,14 @@ use Rattle.sql_tree.specs.declared.table.TableElement.{TableElement}
 use Rattle.sql_tree.specs.declared.table.TableElement.TheVariants as elements
 use Rattle.sql_words.specs.declared.kind.Kind.{Kind}
 use Rattle.sql_words.specs.declared.kind.Kind.TheVariants as k
-use Rattle.sql_words.specs.declared.word.Word.{Word}
-use Rattle.sql_phrases.specs.Reading.{peek, next, sees}
-use Rattle.sql_phrases.specs.Parsers.{Outcome, Parser, and_then, ◌>>=◌, ◌>>◌, ◌<$>◌, pure, refuse, skip, eat, expect, separated, repeated, optional}
+use Rattle.sql_phrases.specs.Reading.{peek}
+use Rattle.sql_phrases.specs.Parsers.{Parser, ◌>>=◌, ◌>>◌, ◌<$>◌, pure, refuse, skip, eat, expect, separated, repeated}
 use Rattle.sql_phrases.specs.NameParsers.{identifier, identifiers, object_name, sees_name}
 use Rattle.sql_phrases.specs.NameParsers as names
 use Rattle.sql_phrases.specs.TypeParsers.{sql_type}
 use Rattle.sql_phrases.specs.TypeParsers as types
-use Rattle.sql_grammar.specs.TableRules.{has_one_default}
+use Rattle.sql_definitions.specs.CheckParsers.{check, constraint_name}
+use Rattle.sql_definitions.specs.TableRules.{has_one_default}
 
 -- after SET
 unfoldable pub set_rule : Parser Rule
@@ -92,24 +92,23 @@ references = do
   both ← both_rules
   pure (record { table = t; columns = cs; matching = m; on_delete = both.0; on_update = both.1 })
 
-unfoldable pub column_constraint : Parser ColumnConstraint
-column_constraint = do
-  is_unique ← eat k.Unique
-  if is_unique then pure constraints.Unique else (do
-    is_primary ← eat k.Primary
-    if is_primary then (expect k.Key >> pure constraints.PrimaryKey) else constraints.References <$> references)
+abbrev pub column_constraint_by : ℕ → Kind → Parser ColumnConstraint
+column_constraint_by m k.Unique = skip >> pure constraints.Unique
+column_constraint_by m k.Primary = skip >> (expect k.Key >> pure constraints.PrimaryKey)
+column_constraint_by m k.Check = constraints.Check <$> check false m
+column_constraint_by m _ = constraints.References <$> references
 
-unfoldable pub constraint_name : Parser (Option (List ℕ))
-constraint_name = optional k.Constraint identifier
+unfoldable pub column_constraint : ℕ → Parser ColumnConstraint
+column_constraint m = λ ws. column_constraint_by m (peek ws) ws
 
-unfoldable pub column_option : Parser ColumnOption
-column_option = do
+unfoldable pub column_option : ℕ → Parser ColumnOption
+column_option m = do
   is_default ← eat k.Default
   if is_default then options.Default <$> types.default else (do
     is_not ← eat k.Not
     if is_not then (expect k.Null >> pure options.NotNull) else (do
       n ← constraint_name
-      options.Constraint n <$> column_constraint))
+      options.Constraint n <$> column_constraint m))
 
 -- the words with which an option begins
 abbrev pub begins_option : Kind → Bool
@@ -119,10 +118,11 @@ begins_option k.Constraint = true
 begins_option k.Primary = true
 begins_option k.Unique = true
 begins_option k.References = true
+begins_option k.Check = true
 begins_option _ = false
 
-unfoldable pub column_options : Parser (List ColumnOption)
-column_options = repeated begins_option column_option
+unfoldable pub column_options : ℕ → Parser (List ColumnOption)
+column_options m = repeated begins_option (column_option m)
 
 unfoldable pub column_type : ℕ → Parser ColumnType
 column_type m = λ ws. if sees_name ws then (bases.Domain <$> object_name) ws else (bases.Type <$> sql_type m) ws
@@ -134,7 +134,7 @@ unfoldable pub column_definition : ℕ → Parser ColumnDefinition
 column_definition m = do
   n ← identifier
   t ← column_type m
-  os ← column_options
+  os ← column_options m
   fitting_options n t os
 
 unfoldable pub column_list : Parser (List (List ℕ))
@@ -144,26 +144,27 @@ column_list = do
   expect k.RightParen
   pure ns
 
-abbrev pub table_constraint_by : Kind → Parser TableConstraintKind
-table_constraint_by k.Primary = skip >> (expect k.Key >> kinds.PrimaryKey <$> column_list)
-table_constraint_by k.Unique = skip >> kinds.Unique <$> column_list
-table_constraint_by k.Foreign = skip >> (do
+abbrev pub table_constraint_by : ℕ → Kind → Parser TableConstraintKind
+table_constraint_by m k.Primary = skip >> (expect k.Key >> kinds.PrimaryKey <$> column_list)
+table_constraint_by m k.Unique = skip >> kinds.Unique <$> column_list
+table_constraint_by m k.Foreign = skip >> (do
   expect k.Key
   ns ← column_list
   kinds.ForeignKey ns <$> references)
-table_constraint_by _ = refuse
+table_constraint_by m k.Check = kinds.Check <$> check false m
+table_constraint_by m _ = refuse
 
-unfoldable pub table_constraint_kind : Parser TableConstraintKind
-table_constraint_kind = λ ws. table_constraint_by (peek ws) ws
+unfoldable pub table_constraint_kind : ℕ → Parser TableConstraintKind
+table_constraint_kind m = λ ws. table_constraint_by m (peek ws) ws
 
-unfoldable pub table_constraint : Parser TableConstraint
-table_constraint = do
+unfoldable pub table_constraint : ℕ → Parser TableConstraint
+table_constraint m = do
   n ← constraint_name
-  c ← table_constraint_kind
+  c ← table_constraint_kind m
   pure (record { name = n; kind = c })
 
 unfoldable pub table_element : ℕ → Parser TableElement
-table_element m = λ ws. if sees_name ws then (elements.Column <$> column_definition m) ws else (elements.Constraint <$> table_constraint) ws
+table_element m = λ ws. if sees_name ws then (elements.Column <$> column_definition m) ws else (elements.Constraint <$> table_constraint m) ws
 
 unfoldable pub table_elements : ℕ → Parser (List TableElement)
 table_elements m = do

@@ -1,7 +1,5 @@
 -- Tables: what is read is spelled so, and what is spelled so is read.
-use Rattle.std.proofs.Common.{◌≡◌, ℕ, ◌<◌, ◌≤◌, Bool, true, false, List, [], ◌∷◌, length, Option, Some, None, refl, ap, arith, lit<, lit≤}
-use Rattle.sql_tree.specs.declared.sort.Default.{Default}
-use Rattle.sql_tree.specs.declared.sort.SqlType.{SqlType}
+use Rattle.std.proofs.Common.{◌≡◌, ℕ, ◌<◌, ◌≤◌, true, false, List, length, Option, Some, refl, ap, arith, lit<, lit≤}
 use Rattle.sql_tree.specs.declared.table.ColumnConstraint.{ColumnConstraint}
 use Rattle.sql_tree.specs.declared.table.ColumnDefinition.{ColumnDefinition}
 use Rattle.sql_tree.specs.declared.table.ColumnOption.{ColumnOption}
@@ -17,21 +15,21 @@ use Rattle.sql_words.specs.Kinds.{is_name, same_kind}
 use Rattle.sql_words.specs.declared.word.Word.{Word}
 use Rattle.sql_words.specs.declared.kind.Kind.{Kind}
 use Rattle.sql_words.specs.declared.kind.Kind.TheVariants as k
-use Rattle.sql_phrases.specs.Reading.{peek, next, sees, after}
-use Rattle.sql_phrases.specs.Shapes.{Token, Spells, Separated, Repeated, Optional, left_out, said, Marked, absent, present}
-use Rattle.sql_phrases.specs.NameRules.{IsIdentifier, IsObjectName, IsIdentifiers, IsColumns, no_columns, columns}
+use Rattle.sql_phrases.specs.Reading.{peek, sees, after}
+use Rattle.sql_phrases.specs.Shapes.{Token, Separated, Repeated, Optional, left_out, said}
+use Rattle.sql_phrases.specs.NameRules.{IsIdentifier, IsColumns, no_columns, columns}
 use Rattle.sql_phrases.specs.NameParsers.{sees_name}
-use Rattle.sql_phrases.specs.NameParsers as names
-use Rattle.sql_phrases.specs.TypeRules.{IsType, IsDefault}
-use Rattle.sql_grammar.specs.TableRules.{IsRule, cascade, set_null, set_default, restrict, no_action, IsRules, no_rules, on_delete, on_update, on_delete_update, on_update_delete, IsMatching, no_match, simple, full, partial, IsReferences, references, IsColumnConstraint, primary_key, unique, refers, IsColumnOption, default_option, not_null, constraint, has_one_default, IsColumnType, of_type, of_domain, IsColumnDefinition, column_definition, IsColumnList, column_list, IsTableConstraintKind, primary_key_of, unique_of, foreign_key_of, IsTableConstraint, table_constraint, IsTableElement, column, table_constraint_element, IsTableElements, table_elements}
-use Rattle.sql_phrases.specs.Parsers.{separated, repeated}
-use Rattle.sql_grammar.specs.TableParsers as parse
-use Rattle.sql_grammar.specs.TableParsers.{begins_option}
-use Rattle.sql_phrases.proofs.Follow.{follows, continues, Below, below_more, passes, sees_differs, sees_other}
-use Rattle.sql_phrases.proofs.Lists.{Gives, gives_none, gives_some, gives_then, gives_weaker, gives_if, after_not, token_next, gives_eat, gives_expect, expect_at, sees_at, after_at, next_at, peek_at, below_token, shorter_token, shorter_spelled, Parses, separated_parses, repeated_complete, repeated_sound, repeated_shorter, below_repeated, optional_complete, optional_sound}
+use Rattle.sql_definitions.specs.TableRules.{IsRule, cascade, set_null, set_default, restrict, no_action, IsRules, no_rules, on_delete, on_update, on_delete_update, on_update_delete, IsMatching, no_match, simple, full, partial, IsReferences, references, IsColumnConstraint, primary_key, unique, refers, column_check, IsColumnOption, default_option, not_null, constraint, has_one_default, IsColumnType, of_type, of_domain, IsColumnDefinition, column_definition, IsColumnList, column_list, IsTableConstraintKind, primary_key_of, unique_of, foreign_key_of, check_of, IsTableConstraint, table_constraint, IsTableElement, column, table_constraint_element, IsTableElements, table_elements}
+use Rattle.sql_phrases.specs.Parsers.{separated}
+use Rattle.sql_definitions.specs.TableParsers as parse
+use Rattle.sql_definitions.specs.TableParsers.{begins_option}
+use Rattle.sql_phrases.proofs.Follow.{follows, Below, below_more, passes, sees_differs, sees_other}
+use Rattle.sql_phrases.proofs.Lists.{Gives, gives_none, gives_some, gives_then, gives_weaker, gives_if, after_not, token_next, gives_eat, gives_expect, expect_at, sees_at, after_at, next_at, peek_at, below_token, shorter_token, Parses, separated_parses, repeated_complete, repeated_sound, repeated_shorter, below_repeated}
 use Rattle.sql_phrases.proofs.NameProofs.{identifier_at, gives_identifier, identifier_begins, identifier_shorter, object_name_at, gives_object_name, object_name_begins, object_name_shorter, identifiers_parse, columns_at, gives_columns, columns_shorter}
 use Rattle.sql_phrases.proofs.TypeLengths.{default_shorter, type_shorter, type_reserved}
 use Rattle.sql_phrases.proofs.TypeProofs.{type_at, gives_type, default_at, gives_default}
+use Rattle.sql_definitions.proofs.Continuing.{continues}
+use Rattle.sql_definitions.proofs.ConditionProofs.{check_at, gives_check, check_shorter, check_begins, begins_constraint, begins_named, name_begins, constraint_name_at, gives_constraint_name, named_shorter}
 
 -- ---- lengths
 
@@ -57,20 +55,6 @@ matching_shorter (partial t u) = omega (arith, shorter_token t, shorter_token u)
 
 references_shorter : {r : References} {ws rest : List Word} → IsReferences r ws rest → length rest < length ws
 references_shorter (references {a = a} {b = b} {c = c} t o cs m r) = omega (arith, shorter_token t, object_name_shorter _ a b o, columns_shorter _ b c cs, matching_shorter m, rules_shorter r)
-
-constraint_shorter : {c : ColumnConstraint} {ws rest : List Word} → IsColumnConstraint c ws rest → length rest < length ws
-constraint_shorter (primary_key t u) = omega (arith, shorter_token t, shorter_token u)
-constraint_shorter (unique t) = shorter_token t
-constraint_shorter (refers r) = references_shorter r
-
-named_shorter : {n : Option (List ℕ)} {ws rest : List Word} → Optional k.Constraint IsIdentifier n ws rest → length rest ≤ length ws
-named_shorter left_out = omega arith
-named_shorter (said {a = a} t n) = omega (arith, shorter_token t, identifier_shorter _ a _ n)
-
-option_shorter : (x : ColumnOption) (ws rest : List Word) → IsColumnOption x ws rest → length rest < length ws
-option_shorter x ws rest (default_option t d) = omega (arith, shorter_token t, default_shorter d)
-option_shorter x ws rest (not_null t u) = omega (arith, shorter_token t, shorter_token u)
-option_shorter x ws rest (constraint n c) = omega (arith, named_shorter n, constraint_shorter c)
 
 -- ---- rules
 
@@ -200,103 +184,7 @@ gives_references {ws} = gives_then (gives_expect k.References tt) (λ _ a t. giv
 references_begin : {x : References} {ws rest : List Word} → IsReferences x ws rest → peek ws ≡ k.References
 references_begin (references t o cs m r) = peek_at t
 
--- ---- constraints on columns
-
-column_constraint_at : {x : ColumnConstraint} {ws rest : List Word} → IsColumnConstraint x ws rest → Below continues 11 rest → parse.column_constraint ws ≡ Some (x, rest)
-unfolding parse.column_constraint
-column_constraint_at {ws = ws} (primary_key t u) s = let n = sees_other k.Unique k.Primary ws (peek_at t) refl in rw (n, after_not k.Unique ws n, sees_at t, after_at t, expect_at u)
-column_constraint_at (unique t) s = rw (sees_at t, after_at t)
-column_constraint_at {ws = ws} (refers r) s =
-    let n = sees_other k.Unique k.References ws (references_begin r) refl in
-    let p = sees_other k.Primary k.References ws (references_begin r) refl in
-    rw (n, after_not k.Unique ws n, p, after_not k.Primary ws p, references_at r s)
-
-gives_column_constraint : {ws : List Word} → Gives (parse.column_constraint ws) (λ x a. IsColumnConstraint x ws a)
-unfolding parse.column_constraint
-gives_column_constraint {ws} = gives_eat k.Unique tt _ _
-    (λ t. gives_some (unique t))
-    (λ e. rw e (gives_eat k.Primary tt _ _
-    (λ t. gives_then (gives_expect k.Key tt) (λ _ a u. gives_some (primary_key t u)))
-    (λ e'. rw e' (gives_then gives_references (λ r a is. gives_some (refers is))))))
-
--- the words with which a constraint without a name begins, and one with a name
-abbrev begins_constraint : Kind → Bool
-begins_constraint k.Primary = true
-begins_constraint k.Unique = true
-begins_constraint k.References = true
-begins_constraint k.Foreign = true
-begins_constraint _ = false
-
-abbrev pub begins_named : Kind → Bool
-begins_named k.Constraint = true
-begins_named k.Primary = true
-begins_named k.Unique = true
-begins_named k.References = true
-begins_named k.Foreign = true
-begins_named _ = false
-
-column_constraint_begins : {x : ColumnConstraint} {ws rest : List Word} → IsColumnConstraint x ws rest → begins_constraint (peek ws) ≡ true
-column_constraint_begins (primary_key t u) = ap begins_constraint (peek_at t)
-column_constraint_begins (unique t) = ap begins_constraint (peek_at t)
-column_constraint_begins (refers r) = ap begins_constraint (references_begin r)
-
-also_named : (kind : Kind) → begins_constraint kind ≡ true → begins_named kind ≡ true
-also_named k.Primary e = refl
-also_named k.Unique e = refl
-also_named k.References e = refl
-also_named k.Foreign e = refl
-also_named _ e = cc
-
-name_begins : {n : Option (List ℕ)} {ws a : List Word} → Optional k.Constraint IsIdentifier n ws a → begins_constraint (peek a) ≡ true → begins_named (peek ws) ≡ true
-name_begins {ws = ws} left_out e = also_named (peek ws) e
-name_begins (said t n) e = ap begins_named (peek_at t)
-
-constraint_name_at : {n : Option (List ℕ)} {ws a : List Word} → Optional k.Constraint IsIdentifier n ws a → begins_constraint (peek a) ≡ true → parse.constraint_name ws ≡ Some (n, a)
-unfolding parse.constraint_name
-constraint_name_at {n} {ws} {a} o e = optional_complete k.Constraint names.identifier IsIdentifier n ws a o (sees_differs begins_constraint k.Constraint a e refl) (λ y b r. identifier_at r)
-
-gives_constraint_name : {ws : List Word} → Gives (parse.constraint_name ws) (λ n a. Optional k.Constraint IsIdentifier n ws a)
-unfolding parse.constraint_name
-gives_constraint_name {ws} = optional_sound k.Constraint tt names.identifier IsIdentifier (λ l. gives_identifier) ws
-
--- ---- options of columns
-
-option_at : (x : ColumnOption) (ws rest : List Word) → IsColumnOption x ws rest → Below continues 11 rest → parse.column_option ws ≡ Some (x, rest)
-unfolding parse.column_option
-option_at x ws rest (default_option t d) s = rw (sees_at t, after_at t, default_at d)
-option_at x ws rest (not_null t u) s = let n = sees_other k.Default k.Not ws (peek_at t) refl in rw (n, after_not k.Default ws n, sees_at t, after_at t, expect_at u)
-option_at x ws rest (constraint n c) s =
-    let b = name_begins n (column_constraint_begins c) in
-    let d = sees_differs begins_named k.Default ws b refl in
-    let o = sees_differs begins_named k.Not ws b refl in
-    rw (d, after_not k.Default ws d, o, after_not k.Not ws o, constraint_name_at n (column_constraint_begins c), column_constraint_at c s)
-
-option_sound : (ws : List Word) → Gives (parse.column_option ws) (λ x a. IsColumnOption x ws a)
-unfolding parse.column_option
-option_sound ws = gives_eat k.Default tt _ _
-    (λ t. gives_then gives_default (λ d a is. gives_some (default_option t is)))
-    (λ e. rw e (gives_eat k.Not tt _ _
-    (λ t. gives_then (gives_expect k.Null tt) (λ _ a u. gives_some (not_null t u)))
-    (λ e'. rw e' (gives_then gives_constraint_name (λ n a is. gives_then gives_column_constraint (λ c rest is'. gives_some (constraint is is')))))))
-
-named_is_option : (kind : Kind) → begins_named kind ≡ true → (kind ≡ k.Foreign → ⊥) → begins_option kind ≡ true
-named_is_option k.Constraint e f = refl
-named_is_option k.Primary e f = refl
-named_is_option k.Unique e f = refl
-named_is_option k.References e f = refl
-named_is_option k.Foreign e f = absurd (f refl)
-named_is_option _ e f = cc
-
-constraint_option : {n : Option (List ℕ)} {c : ColumnConstraint} {ws a rest : List Word} → Optional k.Constraint IsIdentifier n ws a → IsColumnConstraint c a rest → begins_option (peek ws) ≡ true
-constraint_option (said t n) c = ap begins_option (peek_at t)
-constraint_option left_out (primary_key t u) = ap begins_option (peek_at t)
-constraint_option left_out (unique t) = ap begins_option (peek_at t)
-constraint_option left_out (refers r) = ap begins_option (references_begin r)
-
-option_begins : (x : ColumnOption) (ws rest : List Word) → IsColumnOption x ws rest → begins_option (peek ws) ≡ true
-option_begins x ws rest (default_option t d) = ap begins_option (peek_at t)
-option_begins x ws rest (not_null t u) = ap begins_option (peek_at t)
-option_begins x ws rest (constraint n c) = constraint_option n c
+-- ---- what follows
 
 option_binds : (kind : Kind) → begins_option kind ≡ true → continues kind < 11
 option_binds k.Default e = lit< tt
@@ -305,6 +193,7 @@ option_binds k.Constraint e = lit< tt
 option_binds k.Primary e = lit< tt
 option_binds k.Unique e = lit< tt
 option_binds k.References e = lit< tt
+option_binds k.Check e = lit< tt
 option_binds _ e = cc
 
 no_option_by : (kind : Kind) → continues kind < 10 → begins_option kind ≡ false
@@ -314,32 +203,11 @@ no_option_by k.Constraint lt = absurd (omega (arith, lt))
 no_option_by k.Primary lt = absurd (omega (arith, lt))
 no_option_by k.Unique lt = absurd (omega (arith, lt))
 no_option_by k.References lt = absurd (omega (arith, lt))
+no_option_by k.Check lt = absurd (omega (arith, lt))
 no_option_by _ lt = refl
 
 no_option : (ws : List Word) → Below continues 10 ws → begins_option (peek ws) ≡ false
 no_option ws s = no_option_by (peek ws) s.below
-
-option_below : (x : ColumnOption) (ws rest : List Word) → IsColumnOption x ws rest → Below continues 11 ws
-option_below x ws rest is = record { below = option_binds (peek ws) (option_begins x ws rest is) }
-
-option_parses : Parses continues parse.column_option IsColumnOption 11
-option_parses = record { sound = option_sound; complete = option_at; shorter = option_shorter }
-
-options_at : (xs : List ColumnOption) (ws rest : List Word) → Repeated IsColumnOption xs ws rest → Below continues 10 rest → parse.column_options ws ≡ Some (xs, rest)
-unfolding parse.column_options
-options_at xs ws rest m s = repeated_complete continues begins_option 10 parse.column_option IsColumnOption 11 option_parses option_begins no_option option_below (lit≤ tt) xs ws rest m s
-
-gives_options : {ws : List Word} → Gives (parse.column_options ws) (λ xs a. Repeated IsColumnOption xs ws a)
-unfolding parse.column_options
-gives_options {ws} = repeated_sound continues begins_option 10 parse.column_option IsColumnOption 11 option_parses option_begins no_option option_below (lit≤ tt) ws
-
-options_below : (xs : List ColumnOption) (ws rest : List Word) → Repeated IsColumnOption xs ws rest → Below continues 10 rest → Below continues 11 ws
-options_below xs ws rest m s = below_repeated continues begins_option 10 parse.column_option IsColumnOption 11 option_parses option_begins no_option option_below (lit≤ tt) xs ws rest m s
-
-options_shorter : (xs : List ColumnOption) (ws rest : List Word) → Repeated IsColumnOption xs ws rest → length rest ≤ length ws
-options_shorter xs ws rest m = repeated_shorter continues begins_option 10 parse.column_option IsColumnOption 11 option_parses option_begins no_option option_below (lit≤ tt) xs ws rest m
-
--- ---- columns
 
 type_ends_by : (kind : Kind) → continues kind < 11 → follows kind < 10
 type_ends_by k.LeftParen lt = absurd (omega (arith, lt))
@@ -350,7 +218,118 @@ type_ends_by _ lt = lit< tt
 type_ends : (ws : List Word) → Below continues 11 ws → Below follows 10 ws
 type_ends ws s = record { below = type_ends_by (peek ws) s.below }
 
+named_reserved : (kind : Kind) → begins_named kind ≡ true → is_name kind ≡ false
+unfolding is_name same_kind
+named_reserved k.Constraint e = refl
+named_reserved k.Primary e = refl
+named_reserved k.Unique e = refl
+named_reserved k.References e = refl
+named_reserved k.Foreign e = refl
+named_reserved k.Check e = refl
+named_reserved _ e = cc
+
+column_list_at : {ns : List (List ℕ)} {ws rest : List Word} → IsColumnList ns ws rest → parse.column_list ws ≡ Some (ns, rest)
+unfolding parse.column_list
+column_list_at (column_list {ns = ns} {a = a} {b = b} l m r) = rw (expect_at l, identifiers_parse.complete ns a b m (below_token follows 9 r (lit< tt)), expect_at r)
+
+gives_column_list : {ws : List Word} → Gives (parse.column_list ws) (λ ns a. IsColumnList ns ws a)
+unfolding parse.column_list
+gives_column_list {ws} = gives_then (gives_expect k.LeftParen tt) (λ _ a l. gives_then (identifiers_parse.sound a) (λ ns b m. gives_then (gives_expect k.RightParen tt) (λ _ rest r. gives_some (column_list l m r))))
+
+column_list_shorter : {ns : List (List ℕ)} {ws rest : List Word} → IsColumnList ns ws rest → length rest < length ws
+column_list_shorter (column_list {ns = ns} {a = a} {b = b} l m r) = omega (arith, shorter_token l, identifiers_parse.shorter ns a b m, shorter_token r)
+
 module _ (m : ℕ) where
+  -- ---- constraints on columns
+
+  column_constraint_at : {x : ColumnConstraint} {ws rest : List Word} → IsColumnConstraint m x ws rest → Below continues 11 rest → parse.column_constraint m ws ≡ Some (x, rest)
+  unfolding parse.column_constraint
+  column_constraint_at (primary_key t u) s = rw (peek_at t, next_at t, expect_at u)
+  column_constraint_at (unique t) s = rw (peek_at t, next_at t)
+  column_constraint_at (refers r) s = rw (references_begin r, references_at r s)
+  column_constraint_at (column_check c) s = rw (check_begins false m c, check_at false m c)
+
+  column_constraint_sound_by : (ws : List Word) (kind : Kind) → peek ws ≡ kind → Gives (parse.column_constraint_by m kind ws) (λ x a. IsColumnConstraint m x ws a)
+  column_constraint_sound_by ws k.Unique e = gives_some (unique (token_next k.Unique tt e))
+  column_constraint_sound_by ws k.Primary e = gives_then (gives_expect k.Key tt) (λ _ a u. gives_some (primary_key (token_next k.Primary tt e) u))
+  column_constraint_sound_by ws k.Check e = gives_then (gives_check false m) (λ c a is. gives_some (column_check is))
+  column_constraint_sound_by ws _ e = gives_then gives_references (λ r a is. gives_some (refers is))
+
+  gives_column_constraint : {ws : List Word} → Gives (parse.column_constraint m ws) (λ x a. IsColumnConstraint m x ws a)
+  unfolding parse.column_constraint
+  gives_column_constraint {ws} = column_constraint_sound_by ws (peek ws) refl
+
+  constraint_shorter : {c : ColumnConstraint} {ws rest : List Word} → IsColumnConstraint m c ws rest → length rest < length ws
+  constraint_shorter (primary_key t u) = omega (arith, shorter_token t, shorter_token u)
+  constraint_shorter (unique t) = shorter_token t
+  constraint_shorter (refers r) = references_shorter r
+  constraint_shorter (column_check c) = check_shorter false m c
+
+  option_shorter : (x : ColumnOption) (ws rest : List Word) → IsColumnOption m x ws rest → length rest < length ws
+  option_shorter x ws rest (default_option t d) = omega (arith, shorter_token t, default_shorter d)
+  option_shorter x ws rest (not_null t u) = omega (arith, shorter_token t, shorter_token u)
+  option_shorter x ws rest (constraint n c) = omega (arith, named_shorter n, constraint_shorter c)
+
+  column_constraint_begins : {x : ColumnConstraint} {ws rest : List Word} → IsColumnConstraint m x ws rest → begins_constraint (peek ws) ≡ true
+  column_constraint_begins (primary_key t u) = ap begins_constraint (peek_at t)
+  column_constraint_begins (unique t) = ap begins_constraint (peek_at t)
+  column_constraint_begins (refers r) = ap begins_constraint (references_begin r)
+  column_constraint_begins (column_check c) = ap begins_constraint (check_begins false m c)
+
+  -- ---- options of columns
+
+  option_at : (x : ColumnOption) (ws rest : List Word) → IsColumnOption m x ws rest → Below continues 11 rest → parse.column_option m ws ≡ Some (x, rest)
+  unfolding parse.column_option
+  option_at x ws rest (default_option t d) s = rw (sees_at t, after_at t, default_at d)
+  option_at x ws rest (not_null t u) s = let n = sees_other k.Default k.Not ws (peek_at t) refl in rw (n, after_not k.Default ws n, sees_at t, after_at t, expect_at u)
+  option_at x ws rest (constraint n c) s =
+      let b = name_begins n (column_constraint_begins c) in
+      let d = sees_differs begins_named k.Default ws b refl in
+      let o = sees_differs begins_named k.Not ws b refl in
+      rw (d, after_not k.Default ws d, o, after_not k.Not ws o, constraint_name_at n (column_constraint_begins c), column_constraint_at c s)
+
+  option_sound : (ws : List Word) → Gives (parse.column_option m ws) (λ x a. IsColumnOption m x ws a)
+  unfolding parse.column_option
+  option_sound ws = gives_eat k.Default tt _ _
+      (λ t. gives_then gives_default (λ d a is. gives_some (default_option t is)))
+      (λ e. rw e (gives_eat k.Not tt _ _
+      (λ t. gives_then (gives_expect k.Null tt) (λ _ a u. gives_some (not_null t u)))
+      (λ e'. rw e' (gives_then gives_constraint_name (λ n a is. gives_then gives_column_constraint (λ c rest is'. gives_some (constraint is is')))))))
+
+  constraint_option : {n : Option (List ℕ)} {c : ColumnConstraint} {ws a rest : List Word} → Optional k.Constraint IsIdentifier n ws a → IsColumnConstraint m c a rest → begins_option (peek ws) ≡ true
+  constraint_option (said t n) c = ap begins_option (peek_at t)
+  constraint_option left_out (primary_key t u) = ap begins_option (peek_at t)
+  constraint_option left_out (unique t) = ap begins_option (peek_at t)
+  constraint_option left_out (refers r) = ap begins_option (references_begin r)
+  constraint_option left_out (column_check c) = ap begins_option (check_begins false m c)
+
+  option_begins : (x : ColumnOption) (ws rest : List Word) → IsColumnOption m x ws rest → begins_option (peek ws) ≡ true
+  option_begins x ws rest (default_option t d) = ap begins_option (peek_at t)
+  option_begins x ws rest (not_null t u) = ap begins_option (peek_at t)
+  option_begins x ws rest (constraint n c) = constraint_option n c
+
+  option_below : (x : ColumnOption) (ws rest : List Word) → IsColumnOption m x ws rest → Below continues 11 ws
+  option_below x ws rest is = record { below = option_binds (peek ws) (option_begins x ws rest is) }
+
+  option_parses : Parses continues (parse.column_option m) (IsColumnOption m) 11
+  option_parses = record { sound = option_sound; complete = option_at; shorter = option_shorter }
+
+  options_at : (xs : List ColumnOption) (ws rest : List Word) → Repeated (IsColumnOption m) xs ws rest → Below continues 10 rest → parse.column_options m ws ≡ Some (xs, rest)
+  unfolding parse.column_options
+  options_at xs ws rest some s = repeated_complete continues begins_option 10 (parse.column_option m) (IsColumnOption m) 11 option_parses option_begins no_option option_below (lit≤ tt) xs ws rest some s
+
+  gives_options : {ws : List Word} → Gives (parse.column_options m ws) (λ xs a. Repeated (IsColumnOption m) xs ws a)
+  unfolding parse.column_options
+  gives_options {ws} = repeated_sound continues begins_option 10 (parse.column_option m) (IsColumnOption m) 11 option_parses option_begins no_option option_below (lit≤ tt) ws
+
+  options_below : (xs : List ColumnOption) (ws rest : List Word) → Repeated (IsColumnOption m) xs ws rest → Below continues 10 rest → Below continues 11 ws
+  options_below xs ws rest some s = below_repeated continues begins_option 10 (parse.column_option m) (IsColumnOption m) 11 option_parses option_begins no_option option_below (lit≤ tt) xs ws rest some s
+
+  options_shorter : (xs : List ColumnOption) (ws rest : List Word) → Repeated (IsColumnOption m) xs ws rest → length rest ≤ length ws
+  options_shorter xs ws rest some = repeated_shorter continues begins_option 10 (parse.column_option m) (IsColumnOption m) 11 option_parses option_begins no_option option_below (lit≤ tt) xs ws rest some
+
+  -- ---- columns
+
   column_type_at : {x : ColumnType} {ws rest : List Word} → IsColumnType m x ws rest → Below continues 11 rest → parse.column_type m ws ≡ Some (x, rest)
   unfolding parse.column_type sees_name
   column_type_at {rest = rest} (of_type t) s = rw (type_reserved m t, type_at m t (type_ends rest s))
@@ -381,87 +360,70 @@ module _ (m : ℕ) where
   pub column_definition_begins : {x : ColumnDefinition} {ws rest : List Word} → IsColumnDefinition m x ws rest → is_name (peek ws) ≡ true
   column_definition_begins (column_definition n t o few) = identifier_begins n
 
--- ---- constraints of tables
+  -- ---- constraints of tables
 
-column_list_at : {ns : List (List ℕ)} {ws rest : List Word} → IsColumnList ns ws rest → parse.column_list ws ≡ Some (ns, rest)
-unfolding parse.column_list
-column_list_at (column_list {ns = ns} {a = a} {b = b} l m r) = rw (expect_at l, identifiers_parse.complete ns a b m (below_token follows 9 r (lit< tt)), expect_at r)
+  table_kind_at : {x : TableConstraintKind} {ws rest : List Word} → IsTableConstraintKind m x ws rest → Below continues 11 rest → parse.table_constraint_kind m ws ≡ Some (x, rest)
+  unfolding parse.table_constraint_kind
+  table_kind_at (primary_key_of t u l) s = rw (peek_at t, next_at t, expect_at u, column_list_at l)
+  table_kind_at (unique_of t l) s = rw (peek_at t, next_at t, column_list_at l)
+  table_kind_at (check_of c) s = rw (check_begins false m c, check_at false m c)
+  table_kind_at (foreign_key_of t u l r) s = rw (peek_at t, next_at t, expect_at u, column_list_at l, references_at r s)
 
-gives_column_list : {ws : List Word} → Gives (parse.column_list ws) (λ ns a. IsColumnList ns ws a)
-unfolding parse.column_list
-gives_column_list {ws} = gives_then (gives_expect k.LeftParen tt) (λ _ a l. gives_then (identifiers_parse.sound a) (λ ns b m. gives_then (gives_expect k.RightParen tt) (λ _ rest r. gives_some (column_list l m r))))
+  table_kind_sound_by : (ws : List Word) (kind : Kind) → peek ws ≡ kind → Gives (parse.table_constraint_by m kind ws) (λ x a. IsTableConstraintKind m x ws a)
+  table_kind_sound_by ws k.Primary e = gives_then (gives_expect k.Key tt) (λ _ a u. gives_then gives_column_list (λ ns rest l. gives_some (primary_key_of (token_next k.Primary tt e) u l)))
+  table_kind_sound_by ws k.Unique e = gives_then gives_column_list (λ ns rest l. gives_some (unique_of (token_next k.Unique tt e) l))
+  table_kind_sound_by ws k.Foreign e = gives_then (gives_expect k.Key tt) (λ _ a u. gives_then gives_column_list (λ ns b l. gives_then gives_references (λ r rest is. gives_some (foreign_key_of (token_next k.Foreign tt e) u l is))))
+  table_kind_sound_by ws k.Check e = gives_then (gives_check false m) (λ c a is. gives_some (check_of is))
+  table_kind_sound_by ws _ e = gives_none
 
-column_list_shorter : {ns : List (List ℕ)} {ws rest : List Word} → IsColumnList ns ws rest → length rest < length ws
-column_list_shorter (column_list {ns = ns} {a = a} {b = b} l m r) = omega (arith, shorter_token l, identifiers_parse.shorter ns a b m, shorter_token r)
+  gives_table_kind : {ws : List Word} → Gives (parse.table_constraint_kind m ws) (λ x a. IsTableConstraintKind m x ws a)
+  unfolding parse.table_constraint_kind
+  gives_table_kind {ws} = table_kind_sound_by ws (peek ws) refl
 
-table_kind_at : {x : TableConstraintKind} {ws rest : List Word} → IsTableConstraintKind x ws rest → Below continues 11 rest → parse.table_constraint_kind ws ≡ Some (x, rest)
-unfolding parse.table_constraint_kind
-table_kind_at (primary_key_of t u l) s = rw (peek_at t, next_at t, expect_at u, column_list_at l)
-table_kind_at (unique_of t l) s = rw (peek_at t, next_at t, column_list_at l)
-table_kind_at (foreign_key_of t u l r) s = rw (peek_at t, next_at t, expect_at u, column_list_at l, references_at r s)
+  table_kind_begins : {x : TableConstraintKind} {ws rest : List Word} → IsTableConstraintKind m x ws rest → begins_constraint (peek ws) ≡ true
+  table_kind_begins (primary_key_of t u l) = ap begins_constraint (peek_at t)
+  table_kind_begins (unique_of t l) = ap begins_constraint (peek_at t)
+  table_kind_begins (check_of c) = ap begins_constraint (check_begins false m c)
+  table_kind_begins (foreign_key_of t u l r) = ap begins_constraint (peek_at t)
 
-table_kind_sound_by : (ws : List Word) (kind : Kind) → peek ws ≡ kind → Gives (parse.table_constraint_by kind ws) (λ x a. IsTableConstraintKind x ws a)
-table_kind_sound_by ws k.Primary e = gives_then (gives_expect k.Key tt) (λ _ a u. gives_then gives_column_list (λ ns rest l. gives_some (primary_key_of (token_next k.Primary tt e) u l)))
-table_kind_sound_by ws k.Unique e = gives_then gives_column_list (λ ns rest l. gives_some (unique_of (token_next k.Unique tt e) l))
-table_kind_sound_by ws k.Foreign e = gives_then (gives_expect k.Key tt) (λ _ a u. gives_then gives_column_list (λ ns b l. gives_then gives_references (λ r rest is. gives_some (foreign_key_of (token_next k.Foreign tt e) u l is))))
-table_kind_sound_by ws _ e = gives_none
+  table_kind_shorter : {x : TableConstraintKind} {ws rest : List Word} → IsTableConstraintKind m x ws rest → length rest < length ws
+  table_kind_shorter (primary_key_of t u l) = omega (arith, shorter_token t, shorter_token u, column_list_shorter l)
+  table_kind_shorter (unique_of t l) = omega (arith, shorter_token t, column_list_shorter l)
+  table_kind_shorter (check_of c) = check_shorter false m c
+  table_kind_shorter (foreign_key_of t u l r) = omega (arith, shorter_token t, shorter_token u, column_list_shorter l, references_shorter r)
 
-gives_table_kind : {ws : List Word} → Gives (parse.table_constraint_kind ws) (λ x a. IsTableConstraintKind x ws a)
-unfolding parse.table_constraint_kind
-gives_table_kind {ws} = table_kind_sound_by ws (peek ws) refl
+  pub table_constraint_at : {x : TableConstraint} {ws rest : List Word} → IsTableConstraint m x ws rest → Below continues 11 rest → parse.table_constraint m ws ≡ Some (x, rest)
+  unfolding parse.table_constraint
+  table_constraint_at (table_constraint n c) s = rw (constraint_name_at n (table_kind_begins c), table_kind_at c s)
 
-table_kind_begins : {x : TableConstraintKind} {ws rest : List Word} → IsTableConstraintKind x ws rest → begins_constraint (peek ws) ≡ true
-table_kind_begins (primary_key_of t u l) = ap begins_constraint (peek_at t)
-table_kind_begins (unique_of t l) = ap begins_constraint (peek_at t)
-table_kind_begins (foreign_key_of t u l r) = ap begins_constraint (peek_at t)
+  pub gives_table_constraint : {ws : List Word} → Gives (parse.table_constraint m ws) (λ x a. IsTableConstraint m x ws a)
+  unfolding parse.table_constraint
+  gives_table_constraint {ws} = gives_then gives_constraint_name (λ n a is. gives_then gives_table_kind (λ c rest is'. gives_some (table_constraint is is')))
 
-table_kind_shorter : {x : TableConstraintKind} {ws rest : List Word} → IsTableConstraintKind x ws rest → length rest < length ws
-table_kind_shorter (primary_key_of t u l) = omega (arith, shorter_token t, shorter_token u, column_list_shorter l)
-table_kind_shorter (unique_of t l) = omega (arith, shorter_token t, column_list_shorter l)
-table_kind_shorter (foreign_key_of t u l r) = omega (arith, shorter_token t, shorter_token u, column_list_shorter l, references_shorter r)
+  pub table_constraint_begins : {x : TableConstraint} {ws rest : List Word} → IsTableConstraint m x ws rest → begins_named (peek ws) ≡ true
+  table_constraint_begins (table_constraint n c) = name_begins n (table_kind_begins c)
 
-pub table_constraint_at : {x : TableConstraint} {ws rest : List Word} → IsTableConstraint x ws rest → Below continues 11 rest → parse.table_constraint ws ≡ Some (x, rest)
-unfolding parse.table_constraint
-table_constraint_at (table_constraint n c) s = rw (constraint_name_at n (table_kind_begins c), table_kind_at c s)
+  pub table_constraint_reserved : {x : TableConstraint} {ws rest : List Word} → IsTableConstraint m x ws rest → is_name (peek ws) ≡ false
+  table_constraint_reserved {ws = ws} c = named_reserved (peek ws) (table_constraint_begins c)
 
-pub gives_table_constraint : {ws : List Word} → Gives (parse.table_constraint ws) (λ x a. IsTableConstraint x ws a)
-unfolding parse.table_constraint
-gives_table_constraint {ws} = gives_then gives_constraint_name (λ n a is. gives_then gives_table_kind (λ c rest is'. gives_some (table_constraint is is')))
+  table_constraint_shorter : {x : TableConstraint} {ws rest : List Word} → IsTableConstraint m x ws rest → length rest < length ws
+  table_constraint_shorter (table_constraint n c) = omega (arith, named_shorter n, table_kind_shorter c)
 
-named_reserved : (kind : Kind) → begins_named kind ≡ true → is_name kind ≡ false
-unfolding is_name same_kind
-named_reserved k.Constraint e = refl
-named_reserved k.Primary e = refl
-named_reserved k.Unique e = refl
-named_reserved k.References e = refl
-named_reserved k.Foreign e = refl
-named_reserved _ e = cc
+  -- ---- elements of tables
 
-pub table_constraint_begins : {x : TableConstraint} {ws rest : List Word} → IsTableConstraint x ws rest → begins_named (peek ws) ≡ true
-table_constraint_begins (table_constraint n c) = name_begins n (table_kind_begins c)
-
-pub table_constraint_reserved : {x : TableConstraint} {ws rest : List Word} → IsTableConstraint x ws rest → is_name (peek ws) ≡ false
-table_constraint_reserved {ws = ws} c = named_reserved (peek ws) (table_constraint_begins c)
-
-table_constraint_shorter : {x : TableConstraint} {ws rest : List Word} → IsTableConstraint x ws rest → length rest < length ws
-table_constraint_shorter (table_constraint n c) = omega (arith, named_shorter n, table_kind_shorter c)
-
--- ---- elements of tables
-
-module _ (m : ℕ) where
   element_at : (x : TableElement) (ws rest : List Word) → IsTableElement m x ws rest → Below continues 10 rest → parse.table_element m ws ≡ Some (x, rest)
   unfolding parse.table_element sees_name
-  element_at x ws rest (column c) s = rw (column_definition_begins m c, column_definition_at m c s)
+  element_at x ws rest (column c) s = rw (column_definition_begins c, column_definition_at c s)
   element_at x ws rest (table_constraint_element c) s = rw (table_constraint_reserved c, table_constraint_at c (below_more continues 10 11 rest s (lit≤ tt)))
 
   element_sound : (ws : List Word) → Gives (parse.table_element m ws) (λ x a. IsTableElement m x ws a)
   unfolding parse.table_element
   element_sound ws = gives_if (sees_name ws)
-      (λ _. gives_then (gives_column_definition m) (λ c a is. gives_some (column is)))
+      (λ _. gives_then gives_column_definition (λ c a is. gives_some (column is)))
       (λ _. gives_then gives_table_constraint (λ c a is. gives_some (table_constraint_element is)))
 
   element_shorter : (x : TableElement) (ws rest : List Word) → IsTableElement m x ws rest → length rest < length ws
-  element_shorter x ws rest (column c) = column_definition_shorter m c
+  element_shorter x ws rest (column c) = column_definition_shorter c
   element_shorter x ws rest (table_constraint_element c) = table_constraint_shorter c
 
   elements_parse : Parses continues (separated k.Comma (parse.table_element m)) (Separated k.Comma (IsTableElement m)) 9

@@ -1,6 +1,6 @@
 use Rattle.std.proofs.Common.{◌≡◌, length}
-use Rattle.sql_grammar.specs.TableRules.{has_no_default}
-use Rattle.sql_grammar.proofs.table.has_no_default.Given as goal
+use Rattle.sql_definitions.specs.TableRules.{has_no_default}
+use Rattle.sql_definitions.proofs.table.has_no_default.Given as goal
 
 abbrev pub invariant-loop-left : goal.invariant-loop-left
 invariant-loop-left l = has_no_default l.options ≡ has_no_default l.left

@@ -3,9 +3,10 @@
 ghost use Rattle.std.specs.Prelude.{◌≡◌, ◌∷◌};
 ghost use Rattle.sql_words.specs.declared.kind.Kind.TheVariants as k;
 ghost use Rattle.sql_phrases.specs.Parsers.{Reads, separated};
-ghost use Rattle.sql_grammar.specs.TableParsers as spec;
-ghost use Rattle.sql_grammar.specs.TableRules as rules;
+ghost use Rattle.sql_definitions.specs.TableParsers as spec;
+ghost use Rattle.sql_definitions.specs.TableRules as rules;
 
+use crate::condition::{check, constraint_name};
 use sql_phrases::{
     GrammarError, Reader, columns, default, identifier, identifiers, object_name, sees_name,
     sql_type,
@@ -16,9 +17,6 @@ use sql_tree::{
 };
 use sql_words::Kind;
 use std::alloc::Global;
-
-/// How many brackets, CASE and BEGIN may be open at one word.
-pub const MOST_OPEN: usize = 64;
 
 #[tactic(auto, unfolding(crate::specs::TableParsers::set_rule))]
 fn set_rule(words: &mut Reader<'_>) -> Result<Rule, GrammarError>
@@ -147,33 +145,32 @@ fn references(alloc: Global, words: &mut Reader<'_>) -> Result<References, Gramm
 fn column_constraint(
     alloc: Global,
     words: &mut Reader<'_>,
+    depth: usize,
 ) -> Result<ColumnConstraint, GrammarError>
-    ensures { Reads (spec.column_constraint words.old) result words.new }
+    ensures { Reads (spec.column_constraint depth words.old) result words.new }
 {
-    if words.eat(Kind::Unique) {
-        return Ok(ColumnConstraint::Unique);
-    }
-    if words.eat(Kind::Primary) {
-        words.expect(Kind::Key)?;
-        return Ok(ColumnConstraint::PrimaryKey);
-    }
-    Ok(ColumnConstraint::References(references(alloc, words)?))
-}
-
-#[tactic(auto, unfolding(crate::specs::TableParsers::constraint_name, sql_phrases::specs::Parsers::optional))]
-fn constraint_name(alloc: Global, words: &mut Reader<'_>) -> Result<Option<Name>, GrammarError>
-    ensures { Reads (spec.constraint_name words.old) result words.new }
-{
-    if words.eat(Kind::Constraint) {
-        Ok(Some(identifier(alloc, words)?))
-    } else {
-        Ok(None)
+    match words.peek() {
+        Kind::Unique => {
+            words.take();
+            Ok(ColumnConstraint::Unique)
+        }
+        Kind::Primary => {
+            words.take();
+            words.expect(Kind::Key)?;
+            Ok(ColumnConstraint::PrimaryKey)
+        }
+        Kind::Check => Ok(ColumnConstraint::Check(check(alloc, words, depth, false)?)),
+        _ => Ok(ColumnConstraint::References(references(alloc, words)?)),
     }
 }
 
 #[tactic(auto, unfolding(crate::specs::TableParsers::column_option))]
-fn column_option(alloc: Global, words: &mut Reader<'_>) -> Result<ColumnOption, GrammarError>
-    ensures { Reads (spec.column_option words.old) result words.new }
+fn column_option(
+    alloc: Global,
+    words: &mut Reader<'_>,
+    depth: usize,
+) -> Result<ColumnOption, GrammarError>
+    ensures { Reads (spec.column_option depth words.old) result words.new }
 {
     if words.eat(Kind::Default) {
         return Ok(ColumnOption::Default(default(alloc, words)?));
@@ -183,7 +180,7 @@ fn column_option(alloc: Global, words: &mut Reader<'_>) -> Result<ColumnOption, 
         return Ok(ColumnOption::NotNull);
     }
     let name = constraint_name(alloc, words)?;
-    let constraint = column_constraint(alloc, words)?;
+    let constraint = column_constraint(alloc, words, depth)?;
     Ok(ColumnOption::Constraint { name, constraint })
 }
 
@@ -198,6 +195,7 @@ fn begins_option(kind: Kind) -> bool
             | Kind::Primary
             | Kind::Unique
             | Kind::References
+            | Kind::Check
     )
 }
 
@@ -205,15 +203,16 @@ fn begins_option(kind: Kind) -> bool
 fn column_options(
     alloc: Global,
     words: &mut Reader<'_>,
+    depth: usize,
 ) -> Result<Items<ColumnOption>, GrammarError>
-    ensures { Reads (spec.column_options words.old) result words.new }
+    ensures { Reads (spec.column_options depth words.old) result words.new }
 {
     let mut found = Items::new(alloc);
     for _turn in 0..words.len() {
         if !begins_option(words.peek()) {
             return Ok(found);
         }
-        found.push(column_option(alloc, words)?)?;
+        found.push(column_option(alloc, words, depth)?)?;
     }
     Ok(found)
 }
@@ -272,7 +271,7 @@ pub fn column_definition(
 {
     let column = identifier(alloc, words)?;
     let sort = column_type(alloc, words, depth)?;
-    let options = column_options(alloc, words)?;
+    let options = column_options(alloc, words, depth)?;
     if !has_one_default(options.as_slice()) {
         return Err(GrammarError::Syntax);
     }
@@ -297,8 +296,9 @@ fn column_list(alloc: Global, words: &mut Reader<'_>) -> Result<Items<Name>, Gra
 fn table_constraint_kind(
     alloc: Global,
     words: &mut Reader<'_>,
+    depth: usize,
 ) -> Result<TableConstraintKind, GrammarError>
-    ensures { Reads (spec.table_constraint_kind words.old) result words.new }
+    ensures { Reads (spec.table_constraint_kind depth words.old) result words.new }
 {
     match words.peek() {
         Kind::Primary => {
@@ -320,20 +320,22 @@ fn table_constraint_kind(
                 references,
             })
         }
+        Kind::Check => Ok(TableConstraintKind::Check(check(alloc, words, depth, false)?)),
         _ => Err(GrammarError::Syntax),
     }
 }
 
-/// A constraint of a table, with its name where it has one.
+/// A constraint of a table, with its name where it has one, where this many brackets may be opened.
 #[tactic(auto, unfolding(crate::specs::TableParsers::table_constraint))]
 pub fn table_constraint(
     alloc: Global,
     words: &mut Reader<'_>,
+    depth: usize,
 ) -> Result<TableConstraint, GrammarError>
-    ensures { Reads (spec.table_constraint words.old) result words.new }
+    ensures { Reads (spec.table_constraint depth words.old) result words.new }
 {
     let name = constraint_name(alloc, words)?;
-    let kind = table_constraint_kind(alloc, words)?;
+    let kind = table_constraint_kind(alloc, words, depth)?;
     Ok(TableConstraint { name, kind })
 }
 
@@ -348,7 +350,7 @@ fn table_element(
     if sees_name(words) {
         Ok(TableElement::Column(column_definition(alloc, words, depth)?))
     } else {
-        Ok(TableElement::Constraint(table_constraint(alloc, words)?))
+        Ok(TableElement::Constraint(table_constraint(alloc, words, depth)?))
     }
 }
 

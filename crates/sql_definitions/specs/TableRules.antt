@@ -1,6 +1,7 @@
--- Tables: columns and constraints. CHECK isn't in the grammar yet.
-use Rattle.std.specs.Prelude.{◌≡◌, ℕ, Bool, true, false, ◌&&◌, not, List, [], ◌∷◌, Option, Some, None}
+-- Tables: columns and constraints. Of each rule that may open brackets, m says how many of them may be open at once.
+use Rattle.std.specs.Prelude.{◌≡◌, ℕ, Bool, true, false, ◌&&◌, not, List, [], ◌∷◌, Option}
 use Rattle.sql_tree.specs.declared.column.ObjectName.{ObjectName}
+use Rattle.sql_tree.specs.declared.expr.Expr.{Expr}
 use Rattle.sql_tree.specs.declared.sort.Default.{Default}
 use Rattle.sql_tree.specs.declared.sort.SqlType.{SqlType}
 use Rattle.sql_tree.specs.declared.table.ColumnConstraint.{ColumnConstraint}
@@ -22,9 +23,10 @@ use Rattle.sql_tree.specs.declared.table.TableElement.{TableElement}
 use Rattle.sql_tree.specs.declared.table.TableElement.TheVariants as elements
 use Rattle.sql_words.specs.declared.kind.Kind.TheVariants as k
 use Rattle.sql_words.specs.declared.word.Word.{Word}
-use Rattle.sql_phrases.specs.Shapes.{Spelled, Token, Separated, Repeated, Optional}
+use Rattle.sql_phrases.specs.Shapes.{Token, Separated, Repeated, Optional}
 use Rattle.sql_phrases.specs.NameRules.{IsIdentifier, IsObjectName, IsIdentifiers, IsColumns}
 use Rattle.sql_phrases.specs.TypeRules.{IsType, IsDefault}
+use Rattle.sql_definitions.specs.CheckRules.{IsCheck}
 
 -- rule := CASCADE | SET NULL | SET DEFAULT | RESTRICT | NO ACTION
 pub data IsRule : Rule → List Word → List Word → Type 0 where
@@ -55,18 +57,19 @@ pub data IsReferences : References → List Word → List Word → Type 0 where
       → IsMatching m c e → IsRules d u e rest
       → IsReferences (record { table = t; columns = cs; matching = m; on_delete = d; on_update = u }) ws rest
 
--- ccon := PRIMARY KEY | UNIQUE | refs
-pub data IsColumnConstraint : ColumnConstraint → List Word → List Word → Type 0 where
-  primary_key : {ws a rest : List Word} → Token k.Primary ws a → Token k.Key a rest → IsColumnConstraint constraints.PrimaryKey ws rest
-  unique : {ws rest : List Word} → Token k.Unique ws rest → IsColumnConstraint constraints.Unique ws rest
-  refers : {r : References} {ws rest : List Word} → IsReferences r ws rest → IsColumnConstraint (constraints.References r) ws rest
+-- ccon := PRIMARY KEY | UNIQUE | refs | CHECK '(' expr ')'
+pub data IsColumnConstraint (m : ℕ) : ColumnConstraint → List Word → List Word → Type 0 where
+  primary_key : {ws a rest : List Word} → Token k.Primary ws a → Token k.Key a rest → IsColumnConstraint m constraints.PrimaryKey ws rest
+  unique : {ws rest : List Word} → Token k.Unique ws rest → IsColumnConstraint m constraints.Unique ws rest
+  refers : {r : References} {ws rest : List Word} → IsReferences r ws rest → IsColumnConstraint m (constraints.References r) ws rest
+  column_check : {e : Expr} {ws rest : List Word} → IsCheck false m e ws rest → IsColumnConstraint m (constraints.Check e) ws rest
 
 -- DEFAULT default | NOT NULL | [CONSTRAINT name] ccon
-pub data IsColumnOption : ColumnOption → List Word → List Word → Type 0 where
-  default_option : {d : Default} {ws a rest : List Word} → Token k.Default ws a → IsDefault d a rest → IsColumnOption (options.Default d) ws rest
-  not_null : {ws a rest : List Word} → Token k.Not ws a → Token k.Null a rest → IsColumnOption options.NotNull ws rest
-  constraint : {n : Option (List ℕ)} {c : ColumnConstraint} {ws a rest : List Word} → Optional k.Constraint IsIdentifier n ws a → IsColumnConstraint c a rest
-      → IsColumnOption (options.Constraint n c) ws rest
+pub data IsColumnOption (m : ℕ) : ColumnOption → List Word → List Word → Type 0 where
+  default_option : {d : Default} {ws a rest : List Word} → Token k.Default ws a → IsDefault d a rest → IsColumnOption m (options.Default d) ws rest
+  not_null : {ws a rest : List Word} → Token k.Not ws a → Token k.Null a rest → IsColumnOption m options.NotNull ws rest
+  constraint : {n : Option (List ℕ)} {c : ColumnConstraint} {ws a rest : List Word} → Optional k.Constraint IsIdentifier n ws a → IsColumnConstraint m c a rest
+      → IsColumnOption m (options.Constraint n c) ws rest
 
 abbrev pub is_default : ColumnOption → Bool
 is_default (options.Default d) = true
@@ -82,7 +85,6 @@ has_one_default [] = true
 has_one_default (options.Default d ∷ os) = has_no_default os
 has_one_default (_ ∷ os) = has_one_default os
 
--- where this many brackets may be opened
 module _ (m : ℕ) where
   -- type | obj
   pub data IsColumnType : ColumnType → List Word → List Word → Type 0 where
@@ -91,31 +93,32 @@ module _ (m : ℕ) where
 
   -- coldef := name (type | obj) {DEFAULT default | NOT NULL | [CONSTRAINT name] ccon}, with at most one DEFAULT
   pub data IsColumnDefinition : ColumnDefinition → List Word → List Word → Type 0 where
-    column_definition : {n : List ℕ} {t : ColumnType} {os : List ColumnOption} {ws a b rest : List Word} → IsIdentifier n ws a → IsColumnType t a b → Repeated IsColumnOption os b rest
+    column_definition : {n : List ℕ} {t : ColumnType} {os : List ColumnOption} {ws a b rest : List Word} → IsIdentifier n ws a → IsColumnType t a b → Repeated (IsColumnOption m) os b rest
         → has_one_default os ≡ true → IsColumnDefinition (record { column = n; sort = t; options = os }) ws rest
 
 -- '(' name,.. ')'
 pub data IsColumnList : List (List ℕ) → List Word → List Word → Type 0 where
   column_list : {ns : List (List ℕ)} {ws a b rest : List Word} → Token k.LeftParen ws a → IsIdentifiers ns a b → Token k.RightParen b rest → IsColumnList ns ws rest
 
--- (PRIMARY KEY | UNIQUE) '(' name,.. ')' | FOREIGN KEY '(' name,.. ')' refs
-pub data IsTableConstraintKind : TableConstraintKind → List Word → List Word → Type 0 where
-  primary_key_of : {ns : List (List ℕ)} {ws a b rest : List Word} → Token k.Primary ws a → Token k.Key a b → IsColumnList ns b rest → IsTableConstraintKind (kinds.PrimaryKey ns) ws rest
-  unique_of : {ns : List (List ℕ)} {ws a rest : List Word} → Token k.Unique ws a → IsColumnList ns a rest → IsTableConstraintKind (kinds.Unique ns) ws rest
+-- (PRIMARY KEY | UNIQUE) '(' name,.. ')' | FOREIGN KEY '(' name,.. ')' refs | CHECK '(' expr ')'
+pub data IsTableConstraintKind (m : ℕ) : TableConstraintKind → List Word → List Word → Type 0 where
+  primary_key_of : {ns : List (List ℕ)} {ws a b rest : List Word} → Token k.Primary ws a → Token k.Key a b → IsColumnList ns b rest → IsTableConstraintKind m (kinds.PrimaryKey ns) ws rest
+  unique_of : {ns : List (List ℕ)} {ws a rest : List Word} → Token k.Unique ws a → IsColumnList ns a rest → IsTableConstraintKind m (kinds.Unique ns) ws rest
   foreign_key_of : {ns : List (List ℕ)} {r : References} {ws a b c rest : List Word} → Token k.Foreign ws a → Token k.Key a b → IsColumnList ns b c → IsReferences r c rest
-      → IsTableConstraintKind (kinds.ForeignKey ns r) ws rest
+      → IsTableConstraintKind m (kinds.ForeignKey ns r) ws rest
+  check_of : {e : Expr} {ws rest : List Word} → IsCheck false m e ws rest → IsTableConstraintKind m (kinds.Check e) ws rest
 
 -- tcon := [CONSTRAINT name] and what the constraint says
-pub data IsTableConstraint : TableConstraint → List Word → List Word → Type 0 where
-  table_constraint : {n : Option (List ℕ)} {c : TableConstraintKind} {ws a rest : List Word} → Optional k.Constraint IsIdentifier n ws a → IsTableConstraintKind c a rest
-      → IsTableConstraint (record { name = n; kind = c }) ws rest
+pub data IsTableConstraint (m : ℕ) : TableConstraint → List Word → List Word → Type 0 where
+  table_constraint : {n : Option (List ℕ)} {c : TableConstraintKind} {ws a rest : List Word} → Optional k.Constraint IsIdentifier n ws a → IsTableConstraintKind m c a rest
+      → IsTableConstraint m (record { name = n; kind = c }) ws rest
 
 -- coldef | tcon
 pub data IsTableElement (m : ℕ) : TableElement → List Word → List Word → Type 0 where
   column : {c : ColumnDefinition} {ws rest : List Word} → IsColumnDefinition m c ws rest → IsTableElement m (elements.Column c) ws rest
-  table_constraint_element : {c : TableConstraint} {ws rest : List Word} → IsTableConstraint c ws rest → IsTableElement m (elements.Constraint c) ws rest
+  table_constraint_element : {c : TableConstraint} {ws rest : List Word} → IsTableConstraint m c ws rest → IsTableElement m (elements.Constraint c) ws rest
 
--- where this many brackets may be opened: '(' (coldef | tcon),.. ')'
+-- '(' (coldef | tcon),.. ')', inside which m brackets may be open
 pub data IsTableElements (m : ℕ) : List TableElement → List Word → List Word → Type 0 where
   table_elements : {es : List TableElement} {ws a b rest : List Word} → Token k.LeftParen ws a → Separated k.Comma (IsTableElement m) es a b → Token k.RightParen b rest
       → IsTableElements m es ws rest
