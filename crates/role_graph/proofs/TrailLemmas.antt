@@ -1,20 +1,20 @@
 -- The walk back from a role.
-use Rattle.std.proofs.Common.{◌≡◌, ◌≢◌, ℕ, ◌<◌, ◌≤◌, ◌+◌, ◌-◌, Bool, true, false, not, cond, List, [], ◌∷◌, ◌++◌, Option, length, get_or, set, count_by, sym, ◌∙◌, ap, subst, refl, inl, inr, arith, length-append, below_more, get_or-set_other}
-use Rattle.std.specs.List.{Contains, HoldsAt}
+use Rattle.std.proofs.Common.{◌≡◌, ◌≢◌, ℕ, suc, ◌<◌, ◌≤◌, ◌+◌, ◌-◌, Bool, true, false, not, cond, List, [], ◌∷◌, ◌++◌, Option, None, Some, length, get_or, set, count_by, sym, ◌∙◌, ap, subst, refl, inl, inr, arith, length-append, below_more, get_or-set_other, get_or-set_same}
+use Rattle.std.specs.List.{Contains, HoldsAt, filter}
 use Rattle.std.proofs.Math.ListN.{length-set}
-use Rattle.std.proofs.lemmas.Bool.{cases_eq, cases_lt, both_ways}
+use Rattle.std.proofs.lemmas.Bool.{cases_Bool, cases_eq, cases_lt, both_ways}
 use Rattle.std.proofs.lemmas.List.{get_or_default}
-use Rattle.std.proofs.lemmas.List.Sums.{sum_by-set}
-use Rattle.std.proofs.lemmas.List.Elements.{Contains-get_or, Contains-append_left, Contains-push}
+use Rattle.std.proofs.lemmas.List.Sums.{sum_by-set, length-filter}
+use Rattle.std.proofs.lemmas.List.Elements.{Contains-get_or, Contains-append_left, Contains-push, Contains-push_cases}
 use Rattle.finite_chains.proofs.Members.{Contains-nil}
 use Rattle.cat_items.specs.declared.item.RoleGrant.{RoleGrant}
 use Rattle.cat_items.specs.declared.item.Item.{Item}
 use Rattle.cat_items.specs.declared.item.Item.TheVariants.{User, RoleAuth}
 use Rattle.cat_items.specs.Ranges.{IsRange, IsRoleAuthorization, IsGrantOf}
 use Rattle.cat_items.specs.Reach.{Has, GrantsRole, Leads}
-use Rattle.role_graph.specs.Marked.{counted, counts}
+use Rattle.role_graph.specs.Marked.{AreMarksOf, HasMark, counted, counts}
 use Rattle.role_graph.specs.Roles.{IsApplicable, IsRoomFor}
-use Rattle.role_graph.specs.Trails.{IsGrantAt, HasGrantsOf, IsGrantElsewhere, IsGranted, IsTrail, GrewBy, HaveFlags}
+use Rattle.role_graph.specs.Trails.{IsGrantAt, HasGrantsOf, IsGrantElsewhere, IsGranted, IsTrail, AreClear, GrewBy, HaveFlags}
 use Rattle.role_graph.proofs.Growths.{grew_none, grew_more, grew_keeps, grew_cases, grew_at}
 use Rattle.role_graph.proofs.MarkedLemmas.{Contains-counted, place_of_counted}
 
@@ -34,6 +34,10 @@ room_left first seen found k low off trail = omega (arith, unseen-set seen k low
 pub IsTrail-push : (first at : ℕ) (seen : List Bool) (found : List ℕ) → first ≤ at → at - first < length seen → get_or seen (at - first) false ≡ false → IsTrail first seen found → IsTrail first (set seen (at - first) true) (found ++ at ∷ [])
 IsTrail-push first at seen found from low off trail = record {
   count = omega (arith, unseen-set seen (at - first) low off, trail.count, length-append found (at ∷ []), length-set seen (at - first) true);
+  within = λ k c. elim (Contains-push_cases found at k c) [
+    | inl earlier ↦ rw length-set (trail.within k earlier)
+    | inr e ↦ (omega (arith, from, e), rw length-set (omega (arith, from, low, e)))
+  ];
   told = λ k on. elim (cases_eq k (at - first)) [
     | inl e ↦ let same : at ≡ first + k = omega (arith, from, e) in subst (λ n. Contains (found ++ at ∷ []) n) same (Contains-push found at)
     | inr ne ↦ Contains-append_left found (at ∷ []) (first + k) (trail.told k (sym (get_or-set_other seen (at - first) k true false ne) ∙ on))
@@ -44,8 +48,67 @@ IsTrail-push first at seen found from low off trail = record {
 pub told_at : (first at : ℕ) (seen : List Bool) (found : List ℕ) → first ≤ at → get_or seen (at - first) false ≡ true → IsTrail first seen found → Contains found at
 told_at first at seen found from on trail = let same : first + (at - first) ≡ at = omega (arith, from) in subst (λ n. Contains found n) same (trail.told (at - first) on)
 
-pub IsTrail-start : (first : ℕ) (seen : List Bool) → ((k : ℕ) → get_or seen k false ≡ false) → count_by not seen ≡ length seen → IsTrail first seen []
-IsTrail-start first seen none count = record { count = omega (arith, count); told = λ k on. absurd (both_ways (get_or seen k false) (none k) on) }
+-- flags that are clear
+
+filter_clear : (seen : List Bool) → ((k : ℕ) → get_or seen k false ≡ false) → filter not seen ≡ seen
+filter_clear [] clear = refl
+filter_clear (true ∷ seen) clear = absurd (both_ways true (clear 0) refl)
+filter_clear (false ∷ seen) clear = ap (λ l. false ∷ l) (filter_clear seen (λ k. clear (suc k)))
+
+pub IsTrail-start : (first : ℕ) (seen : List Bool) (found : List ℕ) → AreClear seen → found ≡ [] → IsTrail first seen found
+IsTrail-start first seen found clear none = record {
+  count =
+      let all : count_by not seen ≡ length seen = sym (length-filter not seen) ∙ ap length (filter_clear seen clear) in
+      rw none (omega (arith, all));
+  within = λ k c. absurd (Contains-nil k (subst (λ l. Contains l k) none c));
+  told = λ k on. absurd (both_ways (get_or seen k false) (clear k) on);
+}
+
+-- the flags that are left are those of the places from an index on
+pub record AreLeft (first : ℕ) (old seen : List Bool) (found : List ℕ) (i : ℕ) : Type 0 where
+  pub size : length seen ≡ length old
+  pub left : (k : ℕ) → get_or seen k false ≡ true → (j : ℕ) × (i ≤ j) × (j < length found) × (get_or found j 0 ≡ first + k)
+
+pub left_begins : (first : ℕ) (seen : List Bool) (found : List ℕ) → IsTrail first seen found → AreLeft first seen seen found 0
+left_begins first seen found trail = record {
+  size = refl;
+  left = λ k on. let c = trail.told k on in (c.0, (omega arith), c.1, get_or_default found c.0 0 (first + k) c.1 ∙ c.2);
+}
+
+pub left_goes : (first : ℕ) (old seen : List Bool) (found : List ℕ) (i at : ℕ) → IsTrail first old found → AreLeft first old seen found i → i < length found → at ≡ get_or found i 0 → AreLeft first old (set seen (at - first) false) found (i + 1)
+left_goes first old seen found i at trail before low is = record {
+  size = length-set seen (at - first) false ∙ before.size;
+  left = λ k on. elim (cases_eq k (at - first)) [
+    | inl e ↦ absurd (both_ways true (same k e on) refl)
+    | inr ne ↦
+        let b = before.left k (sym (get_or-set_other seen (at - first) k false false ne) ∙ on) in
+        elim (cases_eq b.0 i) [
+          | inl e ↦
+              let here : at ≡ first + k = is ∙ ap (λ n. get_or found n 0) (sym e) ∙ b.3 in
+              absurd (ne (omega (arith, here)))
+          | inr later ↦ (b.0, (omega (arith, b.1, later)), b.2, b.3)
+        ]
+  ];
+}
+  where
+    in_range : (first ≤ at) × (at < first + length old)
+    in_range = trail.within at (i, low, get_or_default found i at 0 low ∙ sym is)
+
+    same : (k : ℕ) → k ≡ at - first → get_or (set seen (at - first) false) k false ≡ true → true ≡ false
+    same k e on =
+        let low_flag : at - first < length seen = omega (arith, in_range.0, in_range.1, before.size) in
+        sym on ∙ ap (λ n. get_or (set seen (at - first) false) n false) e ∙ get_or-set_same seen (at - first) false false low_flag
+
+pub left_ends : (first : ℕ) (old seen : List Bool) (found : List ℕ) (i : ℕ) → length found ≤ i → AreLeft first old seen found i → AreClear seen
+left_ends first old seen found i all left k = elim (cases_Bool (get_or seen k false)) [
+  | inl on ↦ let b = left.left k on in absurd (omega (arith, all, b.1, b.2))
+  | inr off ↦ off
+]
+
+-- a place of the list has a mark
+pub has_mark : (n : ℕ) (marks : Option (List Bool)) (k : ℕ) → AreMarksOf n marks → k < n → HasMark k marks
+has_mark n None k size low = tt
+has_mark n (Some m) k size low = omega (arith, size, low)
 
 -- role authorizations by their places
 
@@ -234,3 +297,7 @@ back_place items shown marks from to found next at back same low e =
 pub back_here : (items shown : List Item) (found : List ℕ) (next at : ℕ) (g : RoleGrant) → shown ≡ items → next < length found → at ≡ get_or found next at → HoldsAt (λ x. x ≡ RoleAuth g) shown at → HoldsAt (λ x. x ≡ RoleAuth g) items (get_or found next 0)
 back_here items shown found next at g same low e here =
     subst (λ n. HoldsAt (λ x. x ≡ RoleAuth g) items n) (place_read found next at low e) (subst (λ l. HoldsAt (λ x. x ≡ RoleAuth g) l at) same here)
+
+-- the place that is read from the list has its flag
+pub flag_read : (first : ℕ) (seen : List Bool) (found : List ℕ) (i : ℕ) → IsTrail first seen found → i < length found → (first ≤ get_or found i 0) × (get_or found i 0 < first + length seen)
+flag_read first seen found i trail low = trail.within (get_or found i 0) (Contains-get_or found i 0 low)

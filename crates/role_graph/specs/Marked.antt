@@ -1,5 +1,5 @@
 -- The items at marked places.
-use Rattle.std.specs.Prelude.{◌≡◌, ℕ, Bool, true, cond, false, List, [], ◌∷◌, Option, Some, None, length, slice_index_or}
+use Rattle.std.specs.Prelude.{◌≡◌, ℕ, Bool, true, cond, false, List, [], ◌∷◌, Option, Some, None, length, slice_index_or, ◌<◌}
 
 -- in the order of the list
 abbrev pub marked : {X : Type 0} → List X → List Bool → List X
@@ -21,3 +21,8 @@ counts (Some marks) k = slice_index_or marks k false
 abbrev pub AreMarksOf : ℕ → Option (List Bool) → Type 0
 AreMarksOf n None = Unit {0}
 AreMarksOf n (Some marks) = length marks ≡ n
+
+-- a place that has a mark, where there are marks
+abbrev pub HasMark : ℕ → Option (List Bool) → Type 0
+HasMark k None = Unit {0}
+HasMark k (Some marks) = k < length marks

@@ -27,7 +27,12 @@ IsGranted items marks role sought = (k : ℕ) × (g : RoleGrant) × IsGrantAt it
 -- places, and flags that tell them, where the first flag is that of the place `first`
 pub record IsTrail (first : ℕ) (seen : List Bool) (found : List ℕ) : Type 0 where
   pub count : length found + count_by not seen ≡ length seen
+  pub within : (k : ℕ) → Contains found k → (first ≤ k) × (k < first + length seen)
   pub told : (k : ℕ) → slice_index_or seen k false ≡ true → Contains found (first + k)
+
+-- no flag is set
+abbrev pub AreClear : List Bool → Type 0
+AreClear seen = (k : ℕ) → slice_index_or seen k false ≡ false
 
 -- the list has grown at its end by elements that are so
 abbrev pub GrewBy : {X : Type 0} → (X → Type 0) → List X → List X → Type 0

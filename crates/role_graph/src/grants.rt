@@ -5,7 +5,7 @@ ghost use Rattle.std.specs.List.{HoldsAt};
 ghost use Rattle.std.specs.Option.{option_copied};
 ghost use Rattle.cat_items.specs.declared.item.Item.TheVariants.{RoleAuth};
 ghost use Rattle.cat_items.specs.Ranges.{IsRoleAuthorization};
-ghost use Rattle.role_graph.specs.Marked.{AreMarksOf, counts};
+ghost use Rattle.role_graph.specs.Marked.{HasMark, counts};
 
 use cat_items::{Item, Marks, RoleGrant};
 
@@ -22,9 +22,8 @@ pub fn grant_at(items: &[Item], at: usize) -> &RoleGrant
 }
 
 /// Whether the item at a place counts: where there are marks, whether the place is marked.
-pub fn is_counted(marks: Option<&Marks>, at: usize, places: usize) -> bool
-    requires within { at < places }
-    requires marks { AreMarksOf places (option_copied marks) }
+pub fn is_counted(marks: Option<&Marks>, at: usize) -> bool
+    requires { HasMark at (option_copied marks) }
     ensures { result ≡ counts (option_copied marks.entry) at }
 {
     match marks {

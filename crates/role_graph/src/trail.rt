@@ -6,7 +6,7 @@ ghost use Rattle.std.specs.Option.{option_copied};
 ghost use Rattle.std.specs.Vec.{vec_capacity};
 ghost use Rattle.role_graph.specs.Marked.{AreMarksOf, counted};
 ghost use Rattle.role_graph.specs.Roles.{IsApplicable};
-ghost use Rattle.role_graph.specs.Trails.{GrewBy, HasGrantsOf, HaveFlags, IsGranted, IsGrantElsewhere, IsTrail};
+ghost use Rattle.role_graph.specs.Trails.{AreClear, GrewBy, HasGrantsOf, HaveFlags, IsGranted, IsGrantElsewhere, IsTrail};
 
 use crate::grants::{grant_at, is_counted};
 use cat_items::{Catalogue, Marks, role_grants_of};
@@ -61,7 +61,7 @@ fn come_to_grants(
     let items = c.items();
     let grants = role_grants_of(c, role);
     for at in grants.start..grants.end {
-        if is_counted(marks, at, items.len()) {
+        if is_counted(marks, at) {
             if grant_at(items, at).grantee.same(sought) {
                 return true;
             }
@@ -69,6 +69,16 @@ fn come_to_grants(
         }
     }
     false
+}
+
+/// Takes back the flags of the places to which a walk came.
+pub fn clear(first: usize, seen: &mut [bool], found: &[usize])
+    requires { IsTrail first seen.old found.now }
+    ensures { AreClear seen.new }
+{
+    for at in found {
+        seen[*at - first] = false;
+    }
 }
 
 /// Whether one or more role authorizations that count lead from a name to another.
@@ -84,8 +94,9 @@ pub fn leads_back(
     requires marks { AreMarksOf (length c.now.items) (option_copied marks) }
     requires flags { HaveFlags first (length seen.old) c.now.items }
     requires room { length seen.old ≤ vec_capacity found.old }
-    requires trail { IsTrail first seen.old found.old.items }
+    requires clear { AreClear seen.old }
     requires empty { found.old.items ≡ [] }
+    ensures trail { IsTrail first seen.new found.new.items }
     ensures answer { IsTrue result ↔ IsApplicable (counted c.now.items (option_copied marks.entry)) from.now to.now }
     ensures capacity { vec_capacity found.old ≤ vec_capacity found.new }
 {

@@ -8,7 +8,7 @@ ghost use Rattle.role_graph.specs.Marked.{AreMarksOf, counted, marked};
 ghost use Rattle.role_graph.specs.Roles.{IsApplicable, IsRoomFor};
 
 use crate::actor::Actor;
-use crate::trail::leads_back;
+use crate::trail::{clear, leads_back};
 use cat_items::{Auth, Catalogue, Marks, role_authorizations};
 use sql_tree::Name;
 use std::alloc::{AllocError, Global};
@@ -18,21 +18,22 @@ use std::marker::Model;
 /// which there is room. A walk leaves it.
 #[derive(Drop)]
 pub struct Walk {
-    /// Whether the walk came to a role authorization, in their order.
+    /// Whether a walk came to a role authorization, in their order; between walks none is flagged.
     seen: Vec<bool>,
-    /// The places of those that it came to.
+    /// The places of those that the last walk came to.
     found: Vec<usize>,
 }
 
 impl Model for Walk {
     ghost use Rattle.std.specs.Prelude.{ℕ, ◌≤◌, vec_len};
     ghost use Rattle.std.specs.Vec.{vec_capacity};
+    ghost use Rattle.role_graph.specs.Trails.{AreClear};
 
     ghost Value = { ℕ };
 
     ghost view = { λ w. vec_len w.seen };
 
-    ghost invariant = { λ w. vec_len w.seen ≤ vec_capacity w.found };
+    ghost invariant = { λ w. (vec_len w.seen ≤ vec_capacity w.found) × AreClear w.seen.items };
 }
 
 impl Walk {
@@ -50,8 +51,8 @@ impl Walk {
 
     /// Whether `a` reaches `g` by the role authorizations at marked places. It takes no memory.
     ///
-    /// It walks back from `g` to those whom it is granted to, and looks at no role authorization that doesn't
-    /// lead to `g`: each of these costs one look-up in the catalogue.
+    /// It walks back from `g` to those whom it is granted to, so it costs two look-ups in the catalogue, two more
+    /// for each role authorization that leads to `g`, and nothing for the others.
     pub fn reaches(&mut self, c: &Catalogue, marks: &Marks, a: &Auth, g: &Auth) -> bool
         requires room { IsRoomFor self.old c.now.items }
         requires marks { length marks.now ≡ length c.now.items }
@@ -97,17 +98,11 @@ impl Walk {
         ensures room { self.new ≡ self.old }
     {
         let first = role_authorizations(c).start;
-        self.seen.as_mut_slice().fill(false);
         self.found.clear();
-        leads_back(
-            c,
-            marks,
-            from,
-            to,
-            first,
-            self.seen.as_mut_slice(),
-            &mut self.found,
-        )
+        let seen = self.seen.as_mut_slice();
+        let leads = leads_back(c, marks, from, to, first, seen, &mut self.found);
+        clear(first, seen, self.found.as_slice());
+        leads
     }
 }
 

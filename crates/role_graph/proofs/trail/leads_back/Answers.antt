@@ -1,8 +1,11 @@
 use Rattle.std.proofs.Common.{◌<◌, length, refl, arith}
 use Rattle.std.proofs.lemmas.Bool.{false≢true}
 use Rattle.std.specs.Option.{option_copied}
-use Rattle.role_graph.proofs.TrailLemmas.{granted_leads, back_begins, back_goes, back_granted, back_ends, back_place, back_here}
+use Rattle.role_graph.proofs.TrailLemmas.{IsTrail-start, granted_leads, back_begins, back_goes, back_granted, back_ends, back_place, back_here}
 use Rattle.role_graph.proofs.trail.leads_back.Goals as goal
+
+pub come_to_grants-requires-clause-trail : goal.come_to_grants-requires-clause-trail
+come_to_grants-requires-clause-trail c = IsTrail-start c.args.first c.args.seen.now c.args.found.now.items c.requires.clear c.requires.empty
 
 pub returns-then-come_to_grants-clause-answer : goal.returns-then-come_to_grants-clause-answer
 returns-then-come_to_grants-clause-answer c = (λ _. granted_leads _ (option_copied c.args.marks) _ _ (c.if-come_to_grants.ensures.granted refl), λ _. refl)
