@@ -1,15 +1,11 @@
 -- How numbers stay filed by their keys.
-use Rattle.std.proofs.Common.{◌≡◌, ℕ, ◌+◌, ◌<◌, ◌≤◌, ◌%◌, ◌≢◌, Bool, true, false, cond, nat_eq, nat_lt, List, [], ◌∷◌, ◌++◌, length, get_or, slice_get, replicate, take, Option, Some, None, sym, ◌∙◌, ap, refl, inl, inr, subst, arith, eq-eqb}
-use Rattle.std.specs.List.{All, position, position_or_len, remove, slice_set}
-use Rattle.std.specs.Cmp.{IsEquivalence}
-use Rattle.std.proofs.lemmas.List.{get_or-replicate, get_or-set_other, get_or-set_same, get_or_default, get_or_past, get_or_read, length-replicate, length-set, length-take-le, take_more}
+use Rattle.std.proofs.Common.{◌≡◌, ℕ, ◌+◌, ◌<◌, ◌%◌, ◌≢◌, Bool, true, false, cond, List, [], ◌∷◌, ◌++◌, length, get_or, slice_get, replicate, take, Option, Some, None, sym, ◌∙◌, ap, refl, inl, inr, subst, arith, eq-eqb}
+use Rattle.std.specs.List.{All, remove, slice_set}
+use Rattle.std.proofs.lemmas.List.{get_or-replicate, get_or-set_other, get_or-set_same, get_or_past, get_or_read, length-replicate, length-set, length-take-le, take_more}
 use Rattle.std.proofs.lemmas.List.Elements.{All-from_get_or}
-use Rattle.std.proofs.lemmas.List.Quantifiers.{position-Some}
-use Rattle.std.proofs.lemmas.List.Sums.{passes_at_first, position_or_len_is, fails_before_first}
-use Rattle.std.proofs.lemmas.Option.{get_or_from_slice_get, slice_get-get_or, slice_get_past, slice_get_within}
+use Rattle.std.proofs.lemmas.Option.{slice_get-get_or, slice_get_past, slice_get_within}
 use Rattle.std.proofs.lemmas.Bool.{cases_Bool, cases_eq, cases_lt, ne_eqb}
 use Rattle.item_index.specs.Filing.{AreFiled, goes_to}
-use Rattle.item_index.specs.Graphs.{holds}
 use Rattle.item_index.specs.Shelves.{list_at, times}
 use Rattle.item_index.proofs.Mirrors.{list_there}
 use Rattle.item_index.proofs.Places.{slice_get-push_last, slice_get-push_other}

@@ -1,17 +1,17 @@
 -- What each call keeps true of the keys, the free numbers and the links.
-use Rattle.std.proofs.Common.{◌≡◌, ℕ, zero, suc, ◌+◌, ◌-◌, ◌<◌, ◌≤◌, ◌⊎◌, ◌≢◌, Bool, true, false, not, ◌||◌, cond, nat_eq, List, [], ◌∷◌, ◌++◌, length, map, get_or, slice_get, Option, Some, None, sym, ◌∙◌, ap, refl, inl, inr, subst, arith, eq-eqb}
-use Rattle.std.specs.List.{slice_set, sum_by, count_by, filter}
+use Rattle.std.proofs.Common.{◌≡◌, ℕ, ◌+◌, ◌<◌, ◌≢◌, Bool, true, false, ◌||◌, cond, nat_eq, List, [], ◌∷◌, ◌++◌, length, map, reverse, take, get_or, slice_get, Option, Some, None, sym, ◌∙◌, ap, refl, inl, inr, subst, arith, eq-eqb}
+use Rattle.std.specs.List.{slice_set, count_by, filter}
 use Rattle.std.specs.Cmp.{IsEquivalence}
 use Rattle.std.proofs.Math.Logic.{∥∥₁_map}
-use Rattle.std.proofs.lemmas.List.{append-nil, length-map, length-set, length-append, get_or-map, get_or-set_same, get_or-set_other, get_or_past, map-append}
+use Rattle.std.proofs.lemmas.List.{append-nil, length-set, length-append, get_or-set_same, get_or-set_other, map-append}
 use Rattle.std.proofs.lemmas.List.Elements.{filter-append}
 use Rattle.std.proofs.lemmas.List.Sums.{sum_by_push, sum_by-set}
 use Rattle.std.proofs.lemmas.Option.{slice_get_within, get_or_from_slice_get, slice_get_past}
-use Rattle.std.proofs.lemmas.Bool.{cases_eq, cases_lt, ne_eqb}
-use Rattle.item_index.specs.Graphs.{AreLinksOf, AreWhole, cut_off, dependents_of, holds, is_free, is_none, links_without, rests_of}
+use Rattle.std.proofs.lemmas.Bool.{cases_eq, ne_eqb}
+use Rattle.item_index.specs.Graphs.{AreLinksOf, AreWhole, cut_off, dependents_of, is_free, is_none, links_without, rests_of}
 use Rattle.item_index.specs.Shelves.{list_at, times, without}
-use Rattle.item_index.proofs.Places.{length-cut_off, list_at-cut_off_other, list_at-cut_off_same, list_at-push_nil, slice_get-push_last, slice_get-push_other, slice_get-set_other, slice_get-set_same}
-use Rattle.item_index.proofs.Times.{hit, hit-same, hit-other, times-push, times-cons, times-without_other, times-without_same, without-cons_other, without-cons_same}
+use Rattle.item_index.proofs.Places.{length-cut_off, list_at-cut_off_other, list_at-cut_off_same, list_at-push_nil, reverse-last, slice_get-push_last, slice_get-push_other, slice_get-set_other, slice_get-set_same}
+use Rattle.item_index.proofs.Times.{hit-same, hit-other, times-push, times-cons, times-without_other, times-without_same, without-cons_other, without-cons_same}
 
 -- the links of a list, with one more
 
@@ -436,3 +436,13 @@ AreWhole-nothing eq = record {
   free_count = refl;
   unlinked = λ n is. (refl, refl);
 }
+
+-- the number that was freed last has no key
+pub last_is_free : {K : Type 0} (eq : K → K → Bool) (keys : List (Option K)) (free : List ℕ) (rests dependents : List (List ℕ)) (last number : ℕ) → last + 1 ≡ length free → number ≡ get_or free last number
+    → AreWhole eq keys (reverse free) rests dependents → slice_get keys number ≡ Some None
+last_is_free eq keys free rests dependents last number len is whole =
+    let first = reverse-last free last number len is in
+    let once = rw first at (whole.free_once number) in
+    let one = times-cons number number (reverse (take last free)) in
+    let here = hit-same number in
+    free_has_none keys (number ∷ reverse (take last free)) number once (omega arith)

@@ -1,13 +1,13 @@
 -- Links that are taken away one after the other, at both ends.
-use Rattle.std.proofs.Common.{◌≡◌, ℕ, ◌+◌, ◌-◌, ◌<◌, ◌≤◌, ◌⊎◌, ◌≢◌, List, [], length, map, get_or, slice_get, Some, sym, ◌∙◌, ap, refl, inl, inr, subst, arith}
+use Rattle.std.proofs.Common.{◌≡◌, ℕ, ◌+◌, ◌<◌, ◌≢◌, List, [], length, map, slice_get, Some, sym, ◌∙◌, ap, refl, inl, inr, arith}
 use Rattle.std.specs.List.{slice_set, remove}
 use Rattle.std.proofs.lemmas.List.{same_lists, length-map, length-set, get_or-map, get_or-set_same, get_or-set_other, get_or_past, get_or_default, map-set, set-set, set-get_or}
 use Rattle.std.proofs.lemmas.List.Edits.{length-remove}
-use Rattle.std.proofs.lemmas.Option.{slice_get_within, get_or_from_slice_get}
+use Rattle.std.proofs.lemmas.Option.{slice_get_within}
 use Rattle.std.proofs.lemmas.Bool.{cases_eq, cases_lt}
 use Rattle.item_index.specs.Graphs.{cut_off}
 use Rattle.item_index.specs.Shelves.{Shelf, list_at, taken_out, times, without}
-use Rattle.item_index.proofs.Times.{hit, hit-same, hit-other, times-remove, times-there, without-none, without-remove}
+use Rattle.item_index.proofs.Times.{hit-same, hit-other, times-remove, times-there, without-none, without-remove}
 
 -- each link of the one stands in the other, as often
 abbrev pub Mirror : List (List ℕ) → List (List ℕ) → Type 0

@@ -1,5 +1,5 @@
 -- Which number has a key.
-use Rattle.std.proofs.Common.{◌≡◌, ℕ, ◌<◌, ◌≤◌, ◌≢◌, Bool, true, false, cond, nat_lt, List, length, get_or, slice_get, Option, Some, None, sym, ◌∙◌, ap, refl, inl, inr, subst, arith}
+use Rattle.std.proofs.Common.{◌≡◌, ℕ, ◌<◌, Bool, true, false, nat_lt, List, length, get_or, slice_get, Option, Some, None, sym, ◌∙◌, ap, refl, inl, inr, arith}
 use Rattle.std.specs.List.{position, position_or_len}
 use Rattle.std.specs.Cmp.{IsEquivalence}
 use Rattle.std.specs.Option.{IfNone, IfSome}

@@ -1,14 +1,14 @@
 -- Lists that are laid out anew one after the other.
-use Rattle.std.proofs.Common.{rules, ◌≡◌, ℕ, ◌+◌, ◌-◌, ◌*◌, ◌/◌, ◌<◌, ◌≤◌, ◌⊎◌, ◌≢◌, List, [], length, get_or, sym, ◌∙◌, ap, refl, inl, inr, subst, arith, take}
-use Rattle.std.specs.List.{slice_set, slice_range, sum_by}
-use Rattle.std.proofs.lemmas.List.{length-set, get_or-set_same, get_or-set_other}
+use Rattle.std.proofs.Common.{rules, ◌≡◌, ℕ, ◌+◌, ◌-◌, ◌*◌, ◌/◌, ◌<◌, ◌≤◌, ◌≢◌, List, length, get_or, sym, ◌∙◌, ap, refl, inl, inr, subst, arith, take}
+use Rattle.std.specs.List.{slice_set}
+use Rattle.std.proofs.lemmas.List.{get_or-set_same, get_or-set_other}
 use Rattle.std.proofs.lemmas.List.Sums.{sum_by_more, sum_by_more_le, sum_by-set}
 use Rattle.std.proofs.lemmas.Slice.{between-put_mid}
 use Rattle.std.proofs.lemmas.List.{places}
-use Rattle.std.proofs.lemmas.Bool.{cases_eq, cases_lt}
+use Rattle.std.proofs.lemmas.Bool.{cases_eq}
 use borrow.Rule.Slice.PartMut.{put_mid}
 use Rattle.item_index.specs.declared.spans.Span.{Span}
-use Rattle.item_index.specs.Spans.{AreSound, IsWithin, held, no_span, span_at, text_of}
+use Rattle.item_index.specs.Spans.{IsWithin, held, no_span, span_at, text_of}
 use Rattle.item_index.proofs.SpanLemmas.{text_of-kept, IsWithin-above}
 
 -- the first i lists of `old` lie in `to` one after the other, below the top, and the others are still to come

@@ -1,8 +1,8 @@
 -- How lists in spans stay the same, and change.
-use Rattle.std.proofs.Common.{◌≡◌, ℕ, ◌+◌, ◌-◌, ◌*◌, ◌<◌, ◌≤◌, ◌⊎◌, ◌≢◌, List, [], ◌∷◌, ◌++◌, length, map, get_or, sym, ◌∙◌, ap, refl, inl, inr, subst, arith, zero, suc}
-use Rattle.std.specs.List.{slice_set, slice_range, sum_by, between, remove, CopiedTo, SameBelow, SameFrom}
+use Rattle.std.proofs.Common.{◌≡◌, ℕ, ◌+◌, ◌-◌, ◌<◌, ◌≤◌, ◌≢◌, List, [], ◌∷◌, ◌++◌, length, get_or, sym, ◌∙◌, ap, refl, inl, inr, subst, arith}
+use Rattle.std.specs.List.{slice_set, between, remove, CopiedTo, SameBelow}
 use Rattle.std.proofs.lemmas.List.Sums.{sum_by-set}
-use Rattle.std.proofs.lemmas.List.{same_lists, map-set, length-map, length-set, length-append, get_or-map, get_or-set_same, get_or-set_other, get_or-append_right, get_or_append_left, get_or_default, get_or_push, map_push}
+use Rattle.std.proofs.lemmas.List.{same_lists, map-set, length-map, length-set, length-append, get_or-map, get_or-set_same, get_or-set_other, get_or_append_left, get_or_push}
 use Rattle.std.proofs.lemmas.List.Edits.{between_more, length-between, get_or-between, length-remove, get_or-remove_below, get_or-remove_above}
 use Rattle.std.proofs.lemmas.Bool.{cases_eq, cases_lt, cases_order}
 use Rattle.item_index.specs.declared.spans.Span.{Span}

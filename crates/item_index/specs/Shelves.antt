@@ -1,5 +1,5 @@
 -- Lists of numbers, each known by its place among them.
-use Rattle.std.specs.Prelude.{ℕ, ◌+◌, ◌-◌, not, nat_eq, List, [], ◌∷◌, ◌++◌, length, take, remove, slice_set, slice_index_or}
+use Rattle.std.specs.Prelude.{ℕ, ◌+◌, ◌-◌, not, nat_eq, List, [], ◌∷◌, ◌++◌, remove, slice_set, slice_index_or}
 use Rattle.std.specs.List.{count_by, filter}
 
 -- the lists, for how many more numbers there is room in them, and for how many more lists

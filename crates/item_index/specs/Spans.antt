@@ -1,5 +1,5 @@
 -- Lists that lie in one row of cells, each in a span of its own.
-use Rattle.std.specs.Prelude.{◌≡◌, ℕ, ◌+◌, ◌<◌, ◌≤◌, ◌⊎◌, List, map, length, slice_range, slice_index_or}
+use Rattle.std.specs.Prelude.{ℕ, ◌+◌, ◌<◌, ◌≤◌, ◌⊎◌, List, map, length, slice_range, slice_index_or}
 use Rattle.std.specs.List.{sum_by}
 use Rattle.item_index.specs.declared.spans.Span.{Span}
 

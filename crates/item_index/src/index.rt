@@ -216,6 +216,8 @@ impl<K: Eq + Hash + Drop, S: BuildHasher + Drop> Index<K, S> {
         requires room { 0 < self.old.spare_keys }
         ensures number { result ≡ next_number self.old }
         ensures graph { self.new ≡ inserted self.old key }
+        ensures key { HasKey self.new result key }
+        ensures kept { (n : ℕ) (k : K) → HasKey self.old n k → HasKey self.new n k }
         ensures unlinked { (list_at self.new.rests result ≡ []) × (list_at self.new.dependents result ≡ []) }
     {
         if self.free.is_empty() {
@@ -232,6 +234,8 @@ impl<K: Eq + Hash + Drop, S: BuildHasher + Drop> Index<K, S> {
         requires none { self.old.free ≡ [] }
         ensures number { result ≡ next_number self.old }
         ensures graph { self.new ≡ inserted self.old key }
+        ensures key { HasKey self.new result key }
+        ensures kept { (n : ℕ) (k : K) → HasKey self.old n k → HasKey self.new n k }
         ensures unlinked { (list_at self.new.rests result ≡ []) × (list_at self.new.dependents result ≡ []) }
     {
         let number = self.keys.len();
@@ -251,6 +255,8 @@ impl<K: Eq + Hash + Drop, S: BuildHasher + Drop> Index<K, S> {
         requires some { 0 < length self.old.free }
         ensures number { result ≡ next_number self.old }
         ensures graph { self.new ≡ inserted self.old key }
+        ensures key { HasKey self.new result key }
+        ensures kept { (n : ℕ) (k : K) → HasKey self.old n k → HasKey self.new n k }
         ensures unlinked { (list_at self.new.rests result ≡ []) × (list_at self.new.dependents result ≡ []) }
     {
         let last = self.free.len() - 1;

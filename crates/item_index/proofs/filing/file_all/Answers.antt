@@ -1,7 +1,7 @@
-use Rattle.std.proofs.Common.{◌≡◌, ◌<◌, ◌≤◌, ◌+◌, ◌%◌, ◌++◌, ◌∷◌, [], ℕ, length, slice_get, take, arith, ap, ◌∙◌, sym}
+use Rattle.std.proofs.Common.{◌≡◌, ◌%◌, ◌++◌, ◌∷◌, [], ℕ, length, arith, ap, ◌∙◌, sym}
 use Rattle.std.proofs.lemmas.List.{length-set, take_all}
 use Rattle.item_index.specs.Shelves.{list_at}
-use Rattle.item_index.specs.Filing.{AreFiled, hash_by}
+use Rattle.item_index.specs.Filing.{hash_by}
 use Rattle.item_index.proofs.FilingLemmas.{AreFiled-next_none, AreFiled-next_some}
 use Rattle.item_index.proofs.filing.file_all.Goals as goal
 use Rattle.item_index.proofs.filing.file_all.Goals.{in-Some, in_default}

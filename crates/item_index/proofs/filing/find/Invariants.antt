@@ -1,4 +1,4 @@
-use Rattle.std.proofs.Common.{◌≡◌, ◌<◌, ℕ, false, length, slice_get, Some, slice_index}
+use Rattle.std.proofs.Common.{◌≡◌, ◌<◌, ℕ, false, slice_get, Some, slice_index}
 use Rattle.item_index.proofs.filing.find.Given as goal
 
 abbrev pub invariant-loop-number : goal.invariant-loop-number

@@ -1,9 +1,6 @@
-use Rattle.std.proofs.Common.{rules, ap, ◌∙◌, ◌≡◌, ◌+◌, ◌*◌, ◌<◌, ◌≤◌, ◌^◌, length, ℕ, ◌-◌, ◌/◌, arith, take, get_or}
-use Rattle.std.specs.List.{slice_set, slice_range, sum_by}
-use borrow.Rule.Slice.PartMut.{put_mid, post_of}
-use Rattle.item_index.specs.declared.spans.Span.{Span}
-use Rattle.item_index.specs.Spans.{AreSound, IsWithin, held, no_span, span_at, text_of, texts}
-use Rattle.item_index.proofs.Packing.{ArePacked, IsMore, fits_next, nothing_packed, ArePacked-step}
+use Rattle.std.proofs.Common.{rules, ap, ◌∙◌, ◌≡◌, length, arith}
+use Rattle.item_index.specs.Spans.{span_at}
+use Rattle.item_index.proofs.Packing.{IsMore, fits_next, nothing_packed, ArePacked-step}
 use Rattle.item_index.proofs.SpanLemmas.{below_length, length-text_of, texts-same}
 use Rattle.item_index.proofs.spans.repack.Goals as goal
 use Rattle.item_index.proofs.spans.repack.Goals.{then-i-grown, else-i-grown}

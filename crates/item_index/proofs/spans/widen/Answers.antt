@@ -1,5 +1,5 @@
-use Rattle.std.proofs.Common.{rules, ◌≡◌, ◌+◌, ◌*◌, ◌≤◌, length, arith}
-use Rattle.item_index.specs.Spans.{span_at, texts}
+use Rattle.std.proofs.Common.{◌+◌, ◌*◌, arith}
+use Rattle.item_index.specs.Spans.{span_at}
 use Rattle.item_index.proofs.SpanLemmas.{texts-moved}
 use Rattle.item_index.proofs.spans.widen.Goals as goal
 

@@ -1,6 +1,4 @@
-use Rattle.std.proofs.Common.{◌≡◌, ◌+◌, ◌<◌, ℕ, [], length, map, Some, slice_get, arith}
-use Rattle.item_index.specs.Shelves.{list_at, times, without}
-use Rattle.item_index.proofs.Mirrors.{IsUnlinking, all_unlinked, fewer, one_unlinked, other_has, other_there}
+use Rattle.item_index.proofs.Mirrors.{all_unlinked, fewer, one_unlinked, other_has, other_there}
 use Rattle.item_index.proofs.unlinking.unlink.Goals as goal
 
 pub take_out-requires-clause-list : goal.take_out-requires-clause-list

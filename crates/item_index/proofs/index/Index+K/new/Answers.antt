@@ -1,4 +1,4 @@
-use Rattle.std.proofs.Common.{◌≡◌, ◌<◌, ◌≤◌, ℕ, [], length, reverse, arith, ap, refl}
+use Rattle.std.proofs.Common.{arith}
 use Rattle.item_index.proofs.GraphLemmas.{AreWhole-nothing}
 use Rattle.item_index.proofs.index.Index+K.new.Goals as goal
 

@@ -1,11 +1,11 @@
-use Rattle.std.proofs.Common.{◌≡◌, ◌+◌, ◌%◌, ◌<◌, ◌≤◌, ℕ, List, [], Option, None, Some, length, slice_get, arith, sym, ap, ◌∙◌, reverse}
+use Rattle.std.proofs.Common.{◌≡◌, ◌%◌, ◌<◌, ℕ, Some, length, slice_get, arith, ap, ◌∙◌, reverse}
 use Rattle.std.proofs.lemmas.List.{length-set, length-reverse}
-use Rattle.std.proofs.lemmas.Option.{slice_get_past}
+use Rattle.std.proofs.lemmas.Option.{slice_get_past, slice_get_within}
 use Rattle.item_index.specs.Filing.{goes_to, hash_by}
 use Rattle.item_index.proofs.FilingLemmas.{AreFiled-added}
 use Rattle.item_index.proofs.GraphLemmas.{AreWhole-new}
 use Rattle.item_index.proofs.NodeLemmas.{absent_from}
-use Rattle.item_index.proofs.Places.{slice_get-push_last, slice_get-push_other}
+use Rattle.item_index.proofs.Places.{slice_get-push_before, slice_get-push_last, slice_get-push_other}
 use Rattle.item_index.proofs.index.Index.insert_new.Goals as goal
 
 pub invariant_of-self : goal.invariant_of-self
@@ -44,3 +44,15 @@ invariant_of-self g c =
       five,
       record { keys_fit = omega arith; frees_fit = omega arith; rests_fit = omega arith; dependents_fit = omega arith; numbers_fit = omega arith; free_now = omega arith; numbers_now = omega arith },
     )
+
+pub returns-clause-key : goal.returns-clause-key
+returns-clause-key g c =
+    let keys = c.self.inside.keys.items in
+    let number_is : c.len-number.result ≡ length keys = let e = c.self.inside.keys.ok.0 in let f = c.len-number.ensures in omega arith in
+    rw (number_is, c.push_reserved.ensures.items) (slice_get-push_last keys (Some c.args.key))
+
+pub returns-clause-kept : goal.returns-clause-kept
+returns-clause-kept g c = λ n k has.
+    let keys = c.self.inside.keys.items in
+    let here : slice_get keys n ≡ Some (Some k) = rw (← c.self.view_is) at has in
+    rw c.push_reserved.ensures.items (slice_get-push_before keys (Some c.args.key) n (slice_get_within keys n (Some k) here) ∙ here)

@@ -1,4 +1,4 @@
-use Rattle.std.proofs.Common.{◌≡◌, ◌+◌, ◌<◌, ◌≤◌, ℕ, List, length, arith, sym, reverse}
+use Rattle.std.proofs.Common.{arith, reverse}
 use Rattle.std.proofs.lemmas.Option.{slice_get_within}
 use Rattle.item_index.proofs.GraphLemmas.{AreLinksOf-push, AreWhole-linked}
 use Rattle.item_index.proofs.index.Index.link.Goals as goal

@@ -1,4 +1,4 @@
-use Rattle.std.proofs.Common.{◌≡◌, ◌+◌, ◌%◌, ◌<◌, ◌≤◌, ℕ, List, length, arith, sym, ap, ◌∙◌, reverse}
+use Rattle.std.proofs.Common.{◌≡◌, ◌%◌, ℕ, length, ap, ◌∙◌}
 use Rattle.item_index.specs.Filing.{hash_by}
 use Rattle.item_index.proofs.FilingLemmas.{filed_within, not_in_file}
 use Rattle.item_index.proofs.NodeLemmas.{found_or_not}

@@ -1,10 +1,10 @@
-use Rattle.std.proofs.Common.{◌≡◌, ◌+◌, ◌-◌, ◌%◌, ◌<◌, ◌≤◌, ℕ, List, [], ◌∷◌, ◌++◌, Option, None, Some, length, slice_get, arith, sym, ap, ◌∙◌, refl, reverse}
-use Rattle.std.specs.List.{count_by, remove, slice_set}
+use Rattle.std.proofs.Common.{◌≡◌, ◌%◌, ℕ, List, [], ◌∷◌, Option, None, Some, length, arith, ap, ◌∙◌, refl, reverse}
+use Rattle.std.specs.List.{remove, slice_set}
 use Rattle.std.proofs.lemmas.List.{length-reverse, length-set, reverse-append}
 use Rattle.std.proofs.lemmas.List.Sums.{count_by-le-length}
 use Rattle.std.proofs.lemmas.Option.{slice_get_within, slice_get_read}
 use Rattle.item_index.specs.Filing.{hash_by}
-use Rattle.item_index.specs.Graphs.{Graph, is_none, link_count}
+use Rattle.item_index.specs.Graphs.{is_none}
 use Rattle.item_index.specs.Shelves.{list_at, without}
 use Rattle.item_index.proofs.FilingLemmas.{AreFiled-taken, filed_there}
 use Rattle.item_index.proofs.GraphLemmas.{AreLinksOf-cut_off, AreWhole-removed, none_more}

@@ -1,4 +1,4 @@
-use Rattle.std.proofs.Common.{◌≡◌, ◌+◌, ◌<◌, ◌≤◌, ◌^◌, ℕ, length, arith, sym, ap}
+use Rattle.std.proofs.Common.{length, arith, ap}
 use Rattle.item_index.proofs.index.Index.reserve_keys.Goals as goal
 
 pub refile-requires-clause-filed : goal.refile-requires-clause-filed

@@ -1,4 +1,4 @@
-use Rattle.std.proofs.Common.{◌≡◌, ◌+◌, ◌<◌, ◌≤◌, ℕ, length, sym, ap, arith, ◌∙◌}
+use Rattle.std.proofs.Common.{length, sym, ap, arith, ◌∙◌}
 use Rattle.std.proofs.lemmas.List.{get_or_read, length-map}
 use Rattle.item_index.specs.Spans.{no_span, span_at, text_of}
 use Rattle.item_index.proofs.SpanLemmas.{below_length, length-text_of, list_at-texts}

@@ -1,10 +1,9 @@
-use Rattle.std.proofs.Common.{◌≡◌, ◌+◌, ◌-◌, ◌*◌, ◌<◌, ◌≤◌, ℕ, List, [], ◌∷◌, ◌++◌, length, sym, ap, arith, ◌∙◌, subst}
+use Rattle.std.proofs.Common.{◌≡◌, ◌+◌, ◌-◌, ◌<◌, ◌≤◌, ℕ, List, [], ◌∷◌, ◌++◌, length, ap, arith, ◌∙◌}
 use Rattle.std.specs.Vec.{vec_capacity, vec_len, with_items}
 use Rattle.std.specs.List.{slice_set}
 use Rattle.std.proofs.lemmas.List.{get_or_read, length-map, with_items_is}
-use Rattle.item_index.specs.declared.spans.Span.{Span}
-use Rattle.item_index.specs.Shelves.{Shelf, list_at, pushed}
-use Rattle.item_index.specs.Spans.{AreSound, held, no_span, span_at, text_of, texts}
+use Rattle.item_index.specs.Shelves.{Shelf, list_at}
+use Rattle.item_index.specs.Spans.{held, no_span, span_at, text_of, texts}
 use Rattle.item_index.proofs.SpanLemmas.{AreSound-lengthened, held-lengthened, lengthened, texts-pushed}
 use Rattle.item_index.proofs.lists.Lists.push.Goals as goal
 use Rattle.item_index.proofs.lists.Lists.push.Goals.{After-self-5-1}

@@ -1,7 +1,6 @@
-use Rattle.std.proofs.Common.{◌≡◌, ◌+◌, ◌*◌, ◌^◌, ◌<◌, ◌≤◌, ℕ, [], ◌∷◌, ◌++◌, length, arith}
+use Rattle.std.proofs.Common.{arith}
 use Rattle.std.proofs.lemmas.List.Sums.{sum_by_push}
-use Rattle.item_index.specs.Shelves.{widened}
-use Rattle.item_index.specs.Spans.{held, no_span}
+use Rattle.item_index.specs.Spans.{no_span}
 use Rattle.item_index.proofs.SpanLemmas.{AreSound-push}
 use Rattle.item_index.proofs.lists.Lists.push_list.Goals as goal
 

@@ -1,11 +1,9 @@
-use Rattle.std.proofs.Common.{◌≡◌, ◌+◌, ◌-◌, ◌*◌, ◌<◌, ◌≤◌, ℕ, List, length, sym, ap, arith, ◌∙◌, subst}
+use Rattle.std.proofs.Common.{◌≡◌, ◌+◌, ◌-◌, ◌<◌, ◌≤◌, ℕ, List, length, sym, ap, arith, ◌∙◌}
 use Rattle.std.specs.Vec.{vec_capacity, vec_len}
 use Rattle.std.specs.List.{slice_set, remove}
-use Rattle.std.proofs.lemmas.List.{get_or_read, get_or-map, length-map}
-use Rattle.std.proofs.lemmas.List.Edits.{length-between}
-use Rattle.item_index.specs.declared.spans.Span.{Span}
-use Rattle.item_index.specs.Shelves.{Shelf, taken_out, list_at}
-use Rattle.item_index.specs.Spans.{AreSound, held, no_span, span_at, text_of, texts}
+use Rattle.std.proofs.lemmas.List.{get_or_read, length-map}
+use Rattle.item_index.specs.Shelves.{Shelf, list_at}
+use Rattle.item_index.specs.Spans.{no_span, span_at, text_of, texts}
 use Rattle.item_index.proofs.SpanLemmas.{AreSound-shortened, held-shortened, shortened, text_of-apart, text_of-taken_out, texts-set, length-text_of, list_at-texts, below_length}
 use Rattle.item_index.proofs.lists.Lists.take_out_at.Goals as goal
 use Rattle.item_index.proofs.lists.Lists.take_out_at.Goals.{After-self-2-1}
