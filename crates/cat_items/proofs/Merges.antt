@@ -1,14 +1,13 @@
 -- Two runs in order that are put into one, and items that are brought behind the others.
-use Rattle.std.proofs.Common.{◌≡◌, ◌≢◌, ◌↔◌, ◌⊎◌, ℕ, zero, suc, ◌+◌, ◌-◌, ◌<◌, ◌≤◌, List, [], ◌∷◌, ◌++◌, Option, Some, None, length, get_or, take, drop, slice_get, length-append, append_assoc, sym, ap, subst, ◌∙◌, refl, inl, inr, arith}
+use Rattle.std.proofs.Common.{◌≡◌, ◌↔◌, ℕ, zero, suc, ◌+◌, ◌-◌, ◌<◌, ◌≤◌, List, [], ◌∷◌, ◌++◌, Some, None, length, get_or, take, drop, slice_get, length-append, append_assoc, sym, ap, subst, ◌∙◌, refl, inl, inr, arith}
 use Rattle.std.specs.List.{Contains}
-use Rattle.std.specs.declared.cmp.Ordering.TheVariants.{Less, Equal}
-use Rattle.std.proofs.lemmas.List.{take-append-drop, take_at, drop_at, get_or_at, get_or_default, append-nil, take_more, drop_more, length-take-le, length-drop, take_all, drop_all}
-use Rattle.std.proofs.lemmas.List.Elements.{Contains-append_left, Contains-append_right, Contains-append_cases, Contains-push, Contains-push_cases, Contains-get_or}
+use Rattle.std.specs.declared.cmp.Ordering.TheVariants.{Less}
+use Rattle.std.proofs.lemmas.List.{take-append-drop, take_at, drop_at, get_or_at, get_or_default, append-nil, length-take-le, length-drop, take_all, drop_all}
+use Rattle.std.proofs.lemmas.List.Elements.{Contains-append_left, Contains-append_right, Contains-append_cases, Contains-push}
 use Rattle.std.proofs.lemmas.Bool.{cases_lt}
-use borrow.Rule.Slice.PartMut.{put_mid, mid_of, post_of}
-use Rattle.finite_chains.specs.Chains.{IsWithin}
+use borrow.Rule.Slice.PartMut.{put_mid, mid_of}
 use Rattle.finite_chains.specs.StrictOrder.{IsRising}
-use Rattle.finite_chains.proofs.Members.{Contains-nil, Contains-head, Contains-tail, Contains-cases}
+use Rattle.finite_chains.proofs.Members.{Contains-nil, Contains-head, Contains-cases}
 use Rattle.cat_items.specs.declared.item.Item.{Item}
 use Rattle.cat_items.specs.Order.{item_cmp}
 use Rattle.cat_items.specs.Catalogues.{IsInOrder, IsCut}
@@ -16,7 +15,6 @@ use Rattle.cat_items.specs.Batch.{AreParts, HaveNoKeyInCommon, IsJoined}
 use Rattle.cat_items.proofs.OrderLemmas.{item_cmp-total}
 use Rattle.cat_items.proofs.Rising.{rising_append, rising_left, rising_right, rising_across, less_back}
 use Rattle.cat_items.proofs.CatalogueLemmas.{before_cut, after_cut, rising, in_order}
-use Rattle.cat_items.proofs.KeyLemmas.{same_key}
 
 empty : {X : Type 0} (xs : List X) → length xs ≤ 0 → xs ≡ []
 empty [] h = refl

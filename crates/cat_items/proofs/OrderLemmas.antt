@@ -20,6 +20,7 @@ use Rattle.cat_items.specs.contracts.item.RightOrd.TheImpl as right
 use Rattle.cat_items.specs.contracts.item.RoleGrantOrd.TheImpl as role_grant
 use Rattle.cat_items.specs.contracts.item.ItemOrd.TheImpl as item
 use Rattle.cat_items.specs.contracts.item.ItemOrd.TheImpl.Laws as laws
+use Rattle.cat_items.specs.contracts.need.NeedOrd.TheImpl.Laws as need_laws
 use Rattle.std.specs.Cmp.{IsTotalOrder}
 
 same_action : (a b : Action) → action.ghosts.cmp a b ≡ nat_cmp (action_number a) (action_number b)
@@ -76,3 +77,7 @@ same_order a b = refl
 -- the order of items is a total one
 pub item_cmp-total : IsTotalOrder item_cmp
 item_cmp-total = subst IsTotalOrder (λ i x y. same_order x y i) laws.total-law
+
+-- so is that of needs
+pub need_cmp-total : IsTotalOrder need_cmp
+need_cmp-total = subst IsTotalOrder (λ i x y. same_need x y i) need_laws.total-law

@@ -10,6 +10,7 @@ pub mod Needs
 pub mod Order
 pub mod Pieces
 pub mod Plain
+pub mod Ranges
 pub mod Reach
 pub mod Relevant
 pub mod Rights

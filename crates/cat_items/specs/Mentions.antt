@@ -1,5 +1,5 @@
 -- What a query, a condition or a body mentions: columns, tables and routines, at any depth.
-use Rattle.std.specs.Prelude.{ℕ, zero, suc, ◌+◌, Bool, true, false, cond, List, [], ◌∷◌, ◌++◌, Option, Some, None, map, flat_map, nat_eq, slice_get}
+use Rattle.std.specs.Prelude.{ℕ, zero, suc, ◌+◌, Bool, false, cond, List, [], ◌∷◌, ◌++◌, Option, Some, None, map, flat_map, nat_eq, slice_get}
 use Rattle.std.specs.List.{list_any}
 use Rattle.sql_tree.specs.declared.object.Object.{Object}
 use Rattle.sql_tree.specs.declared.column.ObjectName.{ObjectName}

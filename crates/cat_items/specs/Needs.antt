@@ -21,7 +21,7 @@ use Rattle.sql_tree.specs.declared.body.AssignedValue.TheVariants as values
 use Rattle.cat_items.specs.declared.need.Need.{Need}
 use Rattle.cat_items.specs.Order.{need_cmp}
 use Rattle.cat_items.specs.Rights.{path_of}
-use Rattle.cat_items.specs.Mentions.{Mention, Mentions, of_cell, of_column, of_table, of_routine, expr_mentions, query_mentions, all_mentions}
+use Rattle.cat_items.specs.Mentions.{Mention, Mentions, of_cell, of_column, of_table, of_routine, expr_mentions, query_mentions}
 
 abbrev pub object_need : Action → Object → Need
 object_need action o = record { action = action; on = path_of o; column = None }

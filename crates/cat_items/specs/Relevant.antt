@@ -7,7 +7,7 @@ use Rattle.sql_tree.specs.declared.rights.Action.TheVariants.{Select, Insert, Up
 use Rattle.sql_tree.specs.declared.body.Security.{Security}
 use Rattle.sql_tree.specs.declared.body.Security.TheVariants.{Definer, Invoker}
 use Rattle.cat_items.specs.declared.need.Auth.{Auth}
-use Rattle.cat_items.specs.declared.need.Auth.TheVariants.{System, Public, Named}
+use Rattle.cat_items.specs.declared.need.Auth.TheVariants.{System, Named}
 use Rattle.cat_items.specs.declared.need.Need.{Need}
 use Rattle.cat_items.specs.declared.item.View.{View}
 use Rattle.cat_items.specs.declared.item.Routine.{Routine}
@@ -16,7 +16,7 @@ use Rattle.cat_items.specs.declared.item.Right.{Right}
 use Rattle.cat_items.specs.declared.item.Item.{Item}
 use Rattle.cat_items.specs.declared.item.Item.TheVariants as item
 use Rattle.cat_items.specs.Reach.{Has, Reaches}
-use Rattle.cat_items.specs.Rights.{path_of, IsAuthorization, IsRole, IsSchema, IsBaseTable, IsTable, IsDomain, IsColumn, IsObject, usage, reference}
+use Rattle.cat_items.specs.Rights.{path_of, IsAuthorization, IsRole, IsSchema, IsBaseTable, IsTable, IsDomain, IsObject, usage, reference}
 use Rattle.cat_items.specs.Supported.{IsKey, IsRoleAuth, IsHeld}
 use Rattle.cat_items.specs.SystemRights.{security_of}
 use Rattle.cat_items.specs.Shape.{IsColumnOf}

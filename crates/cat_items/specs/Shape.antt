@@ -7,12 +7,10 @@ use Rattle.sql_tree.specs.declared.sort.SqlType.{SqlType}
 use Rattle.sql_tree.specs.declared.sort.Param.{Param}
 use Rattle.sql_tree.specs.declared.column.Reference.TheVariants.{Own}
 use Rattle.sql_tree.specs.declared.expr.Expr.{Expr}
-use Rattle.cat_items.specs.declared.item.Check.{Check}
 use Rattle.cat_items.specs.declared.item.Column.{Column}
 use Rattle.cat_items.specs.declared.item.Domain.{Domain}
 use Rattle.cat_items.specs.declared.item.Foreign.{Foreign}
 use Rattle.cat_items.specs.declared.item.Key.{Key}
-use Rattle.cat_items.specs.declared.item.Routine.{Routine}
 use Rattle.cat_items.specs.declared.item.View.{View}
 use Rattle.cat_items.specs.declared.item.Item.{Item}
 use Rattle.cat_items.specs.declared.item.Item.TheVariants as item
@@ -20,7 +18,7 @@ use Rattle.cat_items.specs.Order.{name_cmp}
 use Rattle.cat_items.specs.Reach.{Has, Leads}
 use Rattle.cat_items.specs.Rights.{path_of}
 use Rattle.cat_items.specs.Needs.{AreNeeds, NeededByQuery, NeededByCondition, NeededByBody}
-use Rattle.cat_items.specs.Pieces.{of_reference, of_type, AreResolved, expr_pieces, query_pieces, body_pieces, default_pieces, IsType}
+use Rattle.cat_items.specs.Pieces.{of_reference, AreResolved, expr_pieces, query_pieces, body_pieces, default_pieces, IsType}
 use Rattle.cat_items.specs.Plain.{base_of, HasBase}
 
 abbrev pub Differ : {X : Type 0} → List X → Type 0

@@ -168,9 +168,12 @@ pub struct Right {
 /// variants, and then by their key fields, which come first in each kind. An item has 16 bytes.
 ///
 /// So these stand together in a catalogue: the objects of one kind in a schema, the columns of a table in the
-/// order of their places, the grants of a role, and the rights of an action on an object, first those on the
-/// whole object and then those on each column. These don't: the constraints of a table, what is based on a
-/// domain, and what one grantor granted or one grantee has.
+/// order of their places ([`columns_of`](crate::columns_of)), all role authorizations
+/// ([`role_authorizations`](crate::role_authorizations)), those of a role and its admin options
+/// ([`role_grants_of`](crate::role_grants_of), [`admin_options_of`](crate::admin_options_of)), and the rights of
+/// an action on an object, first those on the whole object and then those on each column, so those of one need
+/// ([`held_of`](crate::held_of), [`grantable_of`](crate::grantable_of)). These don't: the constraints of a
+/// table, what is based on a domain, and what one grantor granted or one grantee has.
 #[derive(PartialEq, Eq, PartialOrd, Ord, Hash, Drop)]
 pub enum Item {
     User(Name),

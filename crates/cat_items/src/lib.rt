@@ -9,6 +9,7 @@ mod item;
 mod limits;
 mod marks;
 mod need;
+mod ranges;
 mod room;
 mod row;
 mod sameness;
@@ -27,6 +28,9 @@ pub use item::{
 pub use limits::Limits;
 pub use marks::Marks;
 pub use need::{Auth, Need};
+pub use ranges::{
+    admin_options_of, columns_of, grantable_of, held_of, role_authorizations, role_grants_of,
+};
 pub use row::{Cell, Row};
 pub use sameness::same_item;
 pub use shared::Shared;

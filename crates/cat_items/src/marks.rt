@@ -36,6 +36,13 @@ impl Marks {
         self.marked.len()
     }
 
+    /// One truth value for each place. It takes no memory.
+    pub fn as_slice(&self) -> &[bool]
+        ensures { result.now ≡ self.now }
+    {
+        self.marked.as_slice()
+    }
+
     /// Marks this place, and no other. It takes no memory.
     pub fn mark(&mut self, at: usize)
         requires { at < length self.old }

@@ -1,8 +1,9 @@
 //! Texts by the rules of the catalogue, and that ample memory is enough.
 
 use crate::{
-    Auth, Catalogue, Column, Item, Limits, Marks, Need, Right, Shared, find, item_text, need_text,
-    owner_of, same_item,
+    Auth, Catalogue, Column, Item, Limits, Marks, Need, Right, RoleGrant, Shared, admin_options_of,
+    columns_of, find, grantable_of, held_of, item_text, need_text, owner_of, role_authorizations,
+    role_grants_of, same_item,
 };
 use sql_tree::{Action, Name, Object, Path, SqlType, Text};
 use std::alloc::{AllocError, Global};
@@ -90,5 +91,55 @@ fn a_catalogue_of_one_item(rt: HostRuntime) -> Result<(), Fail> {
     assert!(rt; same_item(&c.take_out(0), &role));
     assert_eq!(rt; c.into_items().len(), 0);
     assert_eq!(rt; Limits::standard().items, 200_000);
+    Ok(())
+}
+
+/// A role that the system grants to ALICE.
+fn grant(alloc: Global, role: &str) -> Result<Item, Fail> {
+    let grant = RoleGrant {
+        role: name(alloc, role)?,
+        grantor: Auth::System,
+        grantee: name(alloc, "ALICE")?,
+    };
+    Ok(Item::RoleAuth(Shared::new(alloc, grant)?))
+}
+
+/// Puts in an item whose key no item has.
+fn put(c: &mut Catalogue, item: Item) -> Result<(), AllocError> {
+    c.reserve(1)?;
+    match find(c, &item) {
+        None => c.put_in(item),
+        Some(_) => {}
+    }
+    Ok(())
+}
+
+#[test]
+fn ranges_of_two_grants(rt: HostRuntime) -> Result<(), Fail> {
+    let alloc = rt.alloc();
+    let mut c = Catalogue::of_sorted(Vec::new(alloc));
+    put(&mut c, grant(alloc, "R2")?)?;
+    put(&mut c, grant(alloc, "R1")?)?;
+    let role = name(alloc, "R2")?;
+    assert_eq!(rt; role_authorizations(&c).len(), 2);
+    assert_eq!(rt; role_grants_of(&c, &role).start, 1);
+    assert_eq!(rt; role_grants_of(&c, &role).len(), 1);
+    assert_eq!(rt; admin_options_of(&c, &role).len(), 0);
+    Ok(())
+}
+
+#[test]
+fn ranges_of_no_items(rt: HostRuntime) -> Result<(), Fail> {
+    let alloc = rt.alloc();
+    let c = Catalogue::of_sorted(Vec::new(alloc));
+    let need = need(alloc, None)?;
+    let table = Object {
+        schema: name(alloc, "ALICE")?,
+        name: name(alloc, "T")?,
+    };
+    assert_eq!(rt; columns_of(&c, &table).len(), 0);
+    assert_eq!(rt; held_of(&c, &need).len(), 0);
+    assert_eq!(rt; grantable_of(&c, &need).len(), 0);
+    assert_eq!(rt; Marks::new(alloc, &c)?.as_slice().len(), 0);
     Ok(())
 }

@@ -89,7 +89,7 @@ gives_source : {ws : List Word} → Gives (parse.insert_source ws) (λ x a. IsIn
 unfolding parse.insert_source parse.value_list
 gives_source {ws} = gives_eat k.Values tt _ _
     (λ v. gives_then (gives_then (gives_expect k.LeftParen tt) (λ _ b l. gives_then (values_parse.sound b) (λ vs c m. gives_then (gives_expect k.RightParen tt) (λ _ rest r. gives_some (values_source v l m r)))))
-        (λ vs rest is. gives_some is))
+    (λ vs rest is. gives_some is))
     (λ e. rw e (gives_then ((query_within_parses false 64).sound ws) (λ q a is. gives_some (query_source is))))
 
 source_shorter : {x : InsertSource} {ws rest : List Word} → IsInsertSource x ws rest → length rest < length ws

@@ -1,4 +1,4 @@
-use Rattle.std.proofs.Common.{◌≡◌, ◌<◌, ◌-◌, Bool, true, length, Ordering, is_lt, refl, sym, ◌∙◌, arith}
+use Rattle.std.proofs.Common.{◌≡◌, ◌<◌, ◌-◌, true, length, Ordering, is_lt, refl, sym, ◌∙◌, arith}
 use Rattle.std.specs.declared.cmp.Ordering.TheVariants.{Less, Equal, Greater}
 use Rattle.cat_items.proofs.Merges.{at_place, cut_behind}
 use Rattle.cat_items.proofs.batch.cut_from_end.Goals as goal

@@ -1,0 +1,279 @@
+-- A part of the order is a range of each list in order.
+use Rattle.std.proofs.Common.{◌≡◌, ◌≢◌, ◌↔◌, ◌<◌, ◌≤◌, ℕ, Bool, true, false, List, length, get_or, refl, sym, ◌∙◌, ap, subst, inl, inr, arith, nat_eq, nat_le, [], Some, None}
+use Rattle.std.specs.List.Sorted.{IsNonDecreasingBy, IsPartitionedBy, IsPartitionPoint}
+use Rattle.std.specs.Ordering.{nat_cmp, ordering_index, ordering_then, ordering_reverse, is_lt, is_le}
+use Rattle.std.specs.Option.{option_cmp}
+use Rattle.std.specs.Cmp.{IsTotalOrder}
+use Rattle.std.specs.Cmp.Lexicographic.{nat_list_cmp_total}
+use Rattle.std.specs.FinMap.{IsAntisymmetric, nat_cmp-IsAntisymmetric, slice_cmp-IsAntisymmetric}
+use Rattle.std.specs.declared.cmp.Ordering.{Ordering}
+use Rattle.std.specs.declared.cmp.Ordering.TheVariants.{Less, Equal, Greater}
+use Rattle.std.specs.Cmp.{nat_cmp_is, ranked}
+use Rattle.std.proofs.lemmas.Bool.{false≢true, cases_lt, cases_eq}
+use Rattle.std.proofs.lemmas.Cmp.{tied_itself}
+use Rattle.std.proofs.lemmas.List.Sorted.{IsPartitionedBy-leb}
+use Rattle.sql_tree.specs.Names.{name_cmp-IsAntisymmetric}
+use Rattle.sql_tree.specs.declared.rights.Action.{Action}
+use Rattle.sql_tree.specs.declared.rights.Action.TheVariants as action
+use Rattle.sql_tree.specs.contracts.object.ObjectOrd.TheImpl.Laws as object_laws
+use Rattle.cat_items.specs.declared.item.Item.{Item}
+use Rattle.cat_items.specs.declared.item.Item.TheVariants as item
+use Rattle.cat_items.specs.declared.ranges.Part.{Part}
+use Rattle.cat_items.specs.declared.ranges.Part.TheVariants.{RoleAuthorizations, RoleGrants, AdminOptions, Columns, Held, Grantable}
+use Rattle.cat_items.specs.Order.{name_cmp, object_cmp, need_cmp, action_number, kind_of, key_cmp, item_cmp}
+use Rattle.cat_items.specs.Catalogues.{IsInOrder}
+use Rattle.cat_items.specs.Ranges.{IsRange, IsIn, kind_in, place_in}
+use Rattle.cat_items.proofs.OrderLemmas.{need_cmp-total}
+
+-- orders that tell apart what differs
+
+action_number-is : (a b : Action) → action_number a ≡ action_number b → a ≡ b
+action_number-is action.Select action.Select e = refl
+action_number-is action.Insert action.Insert e = refl
+action_number-is action.Update action.Update e = refl
+action_number-is action.Delete action.Delete e = refl
+action_number-is action.References action.References e = refl
+action_number-is action.Usage action.Usage e = refl
+action_number-is action.Execute action.Execute e = refl
+action_number-is action.Admin action.Admin e = refl
+action_number-is a b e = absurd (omega (arith, e))
+
+both_equal : (a b : Ordering) → ordering_then a b ≡ Equal → (a ≡ Equal) × (b ≡ Equal)
+both_equal Less b e = absurd (let odd : Less ≡ Equal = e in cc)
+both_equal Equal b e = (refl, e)
+both_equal Greater b e = absurd (let odd : Greater ≡ Equal = e in cc)
+
+option_cmp-IsAntisymmetric : {K : Type 0} (R : K → K → Ordering) → IsAntisymmetric R → IsAntisymmetric (option_cmp R)
+option_cmp-IsAntisymmetric R same None None e = refl
+option_cmp-IsAntisymmetric R same None (Some b) e = absurd (let odd : Less ≡ Equal = e in cc)
+option_cmp-IsAntisymmetric R same (Some a) None e = absurd (let odd : Greater ≡ Equal = e in cc)
+option_cmp-IsAntisymmetric R same (Some a) (Some b) e = ap Some (same a b e)
+
+object_cmp-is : IsAntisymmetric object_cmp
+object_cmp-is a b e =
+    let both = both_equal (name_cmp a.schema b.schema) (name_cmp a.name b.name) e in
+    let schemas : a.schema ≡ b.schema = name_cmp-IsAntisymmetric a.schema b.schema both.0 in
+    let names : a.name ≡ b.name = name_cmp-IsAntisymmetric a.name b.name both.1 in
+    λ i. record { schema = schemas i; name = names i }
+
+need_cmp-is : IsAntisymmetric need_cmp
+need_cmp-is a b e =
+    let both = both_equal (nat_cmp (action_number a.action) (action_number b.action)) _ e in
+    let rest = both_equal _ _ both.1 in
+    let actions : a.action ≡ b.action = action_number-is a.action b.action (nat_cmp-IsAntisymmetric _ _ both.0) in
+    let objects : a.on ≡ b.on = slice_cmp-IsAntisymmetric name_cmp-IsAntisymmetric a.on b.on rest.0 in
+    let columns : a.column ≡ b.column = option_cmp-IsAntisymmetric name_cmp name_cmp-IsAntisymmetric a.column b.column rest.1 in
+    λ i. record { action = actions i; on = objects i; column = columns i }
+
+-- the item is in a part exactly where it is neither before it nor behind it
+
+IsTie : Ordering → Type 0
+IsTie Less = ⊥
+IsTie Equal = Unit {0}
+IsTie Greater = ⊥
+
+tie : (o : Ordering) → o ≡ Equal → IsTie o
+unfolding IsTie
+tie o e = subst IsTie (sym e) tt
+
+from_tie : (o : Ordering) → IsTie o → o ≡ Equal
+unfolding IsTie
+from_tie Less h = absurd h
+from_tie Equal h = refl
+from_tie Greater h = absurd h
+
+same : {K : Type 0} (R : K → K → Ordering) → IsTotalOrder R → IsAntisymmetric R → (a b : K) → IsTie (R a b) ↔ (a ≡ b)
+same R total antisymmetric a b =
+    (λ h. antisymmetric a b (from_tie (R a b) h), λ e. tie (R a b) (subst (λ z. R a z ≡ Equal) e (tied_itself total a)))
+
+is_in : (part : Part) (x : Item) → IsTie (place_in part x) ↔ IsIn part x
+unfolding IsTie
+is_in RoleAuthorizations (item.RoleAuth g) = (λ h. tt, λ h. tt)
+is_in RoleAuthorizations x = (λ h. absurd h, λ h. absurd h)
+is_in (RoleGrants role) (item.RoleAuth g) = same name_cmp nat_list_cmp_total name_cmp-IsAntisymmetric g.role role.now
+is_in (RoleGrants role) x = (λ h. absurd h, λ h. absurd h)
+is_in (AdminOptions role) (item.RoleAdmin g) = same name_cmp nat_list_cmp_total name_cmp-IsAntisymmetric g.role role.now
+is_in (AdminOptions role) x = (λ h. absurd h, λ h. absurd h)
+is_in (Columns table) (item.Column c) = same object_cmp object_laws.total-law object_cmp-is c.table table.now
+is_in (Columns table) x = (λ h. absurd h, λ h. absurd h)
+is_in (Held need) (item.Held r) = same need_cmp need_cmp-total need_cmp-is r.need need.now
+is_in (Held need) x = (λ h. absurd h, λ h. absurd h)
+is_in (Grantable need) (item.Grantable r) = same need_cmp need_cmp-total need_cmp-is r.need need.now
+is_in (Grantable need) x = (λ h. absurd h, λ h. absurd h)
+
+-- along the order of items a part's places rise
+
+Rises : Ordering → Ordering → Type 0
+Rises a b = ordering_index a ≤ ordering_index b
+
+-- what comes before in an order, by a first part, doesn't come behind by that part
+first_part : {K : Type 0} (R : K → K → Ordering) → IsTotalOrder R → (a b q : K) (rest : Ordering) → ordering_then (R a b) rest ≡ Less → Rises (R a q) (R b q)
+unfolding Rises
+first_part R total a b q rest less = by_order (R a b) refl less
+  where
+    after : (o : Ordering) → R a b ≡ Less → R b q ≡ o → ordering_index (R a q) ≤ ordering_index o
+    after Less before e = rw (total.trans a b q before e) (omega arith)
+    after Equal before e = rw (tied before e) (omega arith)
+      where
+        tied : R a b ≡ Less → R b q ≡ Equal → R a q ≡ Less
+        tied before e = total.antisymm a q ∙ ap ordering_reverse (sym (total.congr b q a e)) ∙ sym (total.antisymm a b) ∙ before
+    after Greater before e = below (R a q)
+      where
+        below : (o : Ordering) → ordering_index o ≤ 2
+        below Less = omega arith
+        below Equal = omega arith
+        below Greater = omega arith
+
+    by_order : (o : Ordering) → R a b ≡ o → ordering_then o rest ≡ Less → ordering_index (R a q) ≤ ordering_index (R b q)
+    by_order Less e h = after (R b q) e refl
+    by_order Equal e h = rw (total.congr a b q e) (omega arith)
+    by_order Greater e h = absurd (let odd : Greater ≡ Less = h in cc)
+
+-- items of another kind than the part's go by their kinds
+by_kind : (part : Part) (x : Item) → kind_of x ≢ kind_in part → place_in part x ≡ nat_cmp (kind_of x) (kind_in part)
+by_kind RoleAuthorizations x other = refl
+by_kind (RoleGrants role) (item.RoleAuth g) other = absurd (other refl)
+by_kind (RoleGrants role) x other = refl
+by_kind (AdminOptions role) (item.RoleAdmin g) other = absurd (other refl)
+by_kind (AdminOptions role) x other = refl
+by_kind (Columns table) (item.Column c) other = absurd (other refl)
+by_kind (Columns table) x other = refl
+by_kind (Held need) (item.Held r) other = absurd (other refl)
+by_kind (Held need) x other = refl
+by_kind (Grantable need) (item.Grantable r) other = absurd (other refl)
+by_kind (Grantable need) x other = refl
+
+unlike : {A : Type 0} (m n : ℕ) → nat_eq m n ≡ false → nat_eq n n ≡ true → m ≡ n → A
+unlike m n off on e = absurd (false≢true (sym off ∙ ap (λ k. nat_eq k n) e ∙ on))
+
+-- items of the part's kind
+within_kind : (part : Part) (x y : Item) → kind_of x ≡ kind_in part → kind_of y ≡ kind_in part → key_cmp x y ≡ Less → Rises (place_in part x) (place_in part y)
+unfolding Rises
+within_kind RoleAuthorizations x y ex ey less = rw (ex, ey) (omega arith)
+within_kind (RoleGrants role) (item.RoleAuth g) (item.RoleAuth h) ex ey less = first_part name_cmp nat_list_cmp_total g.role h.role role.now _ less
+within_kind (RoleGrants role) (item.RoleAuth g) y ex ey less = unlike _ 14 refl refl ey
+within_kind (RoleGrants role) x y ex ey less = unlike _ 14 refl refl ex
+within_kind (AdminOptions role) (item.RoleAdmin g) (item.RoleAdmin h) ex ey less = first_part name_cmp nat_list_cmp_total g.role h.role role.now _ less
+within_kind (AdminOptions role) (item.RoleAdmin g) y ex ey less = unlike _ 15 refl refl ey
+within_kind (AdminOptions role) x y ex ey less = unlike _ 15 refl refl ex
+within_kind (Columns table) (item.Column g) (item.Column h) ex ey less = first_part object_cmp object_laws.total-law g.table h.table table.now _ less
+within_kind (Columns table) (item.Column g) y ex ey less = unlike _ 6 refl refl ey
+within_kind (Columns table) x y ex ey less = unlike _ 6 refl refl ex
+within_kind (Held need) (item.Held g) (item.Held h) ex ey less = first_part need_cmp need_cmp-total g.need h.need need.now _ less
+within_kind (Held need) (item.Held g) y ex ey less = unlike _ 16 refl refl ey
+within_kind (Held need) x y ex ey less = unlike _ 16 refl refl ex
+within_kind (Grantable need) (item.Grantable g) (item.Grantable h) ex ey less = first_part need_cmp need_cmp-total g.need h.need need.now _ less
+within_kind (Grantable need) (item.Grantable g) y ex ey less = unlike _ 17 refl refl ey
+within_kind (Grantable need) x y ex ey less = unlike _ 17 refl refl ex
+
+below_two : (o : Ordering) → ordering_index o ≤ 2
+below_two Less = omega arith
+below_two Equal = omega arith
+below_two Greater = omega arith
+
+-- an item that comes later isn't before in the part
+place_rises : (part : Part) (x y : Item) → item_cmp x y ≡ Less → Rises (place_in part x) (place_in part y)
+unfolding Rises
+place_rises part x y less = by_kinds (nat_cmp (kind_of x) (kind_of y)) refl less
+  where
+    n : ℕ
+    n = kind_in part
+
+    later : kind_of x < kind_of y → ordering_index (place_in part x) ≤ ordering_index (place_in part y)
+    later up =
+        elim (cases_lt (kind_of x) n) [
+          | inl before ↦ rw (by_kind part x (λ e. omega (arith, e, before)), sym (nat_cmp_is (kind_of x) n Less before)) (omega arith)
+          | inr from ↦ rw (by_kind part y (λ e. omega (arith, e, from, up)), sym (nat_cmp_is (kind_of y) n Greater (omega (arith, from, up)))) (below_two (place_in part x))
+        ]
+
+    equal : kind_of x ≡ kind_of y → key_cmp x y ≡ Less → ordering_index (place_in part x) ≤ ordering_index (place_in part y)
+    equal e keys =
+        elim (cases_eq (kind_of x) n) [
+          | inl here ↦ within_kind part x y here (sym e ∙ here) keys
+          | inr other ↦ rw (by_kind part x other, by_kind part y (λ f. other (e ∙ f)), e) (omega arith)
+        ]
+
+    by_kinds : (o : Ordering) → nat_cmp (kind_of x) (kind_of y) ≡ o → ordering_then o (key_cmp x y) ≡ Less → ordering_index (place_in part x) ≤ ordering_index (place_in part y)
+    by_kinds Less e h = later (ranked (kind_of x) (kind_of y) Less (sym e))
+    by_kinds Equal e h = equal (nat_cmp-IsAntisymmetric (kind_of x) (kind_of y) e) h
+    by_kinds Greater e h = absurd (let odd : Greater ≡ Less = h in cc)
+
+-- so they do along a list in order
+places_rise : (items : List Item) → IsInOrder items → (part : Part) → IsNonDecreasingBy (λ x. ordering_index (place_in part x)) items
+unfolding Rises
+places_rise items order part i j d low high =
+    elim (cases_lt i j) [
+      | inl before ↦ place_rises part (get_or items i d) (get_or items j d) (order i j d before high)
+      | inr same_place ↦ let e : i ≡ j = omega arith in rw e (omega arith)
+    ]
+
+is_lt-index : (o : Ordering) → is_lt o ≡ nat_le (ordering_index o) 0
+is_lt-index Less = refl
+is_lt-index Equal = refl
+is_lt-index Greater = refl
+
+is_le-index : (o : Ordering) → is_le o ≡ nat_le (ordering_index o) 1
+is_le-index Less = refl
+is_le-index Equal = refl
+is_le-index Greater = refl
+
+-- a test that what rises passes up to a bound parts a list in two
+parted : (n : Item → ℕ) (p : Item → Bool) (t : ℕ) → ((x : Item) → p x ≡ nat_le (n x) t) → (items : List Item) → IsNonDecreasingBy n items → IsPartitionedBy p items
+parted n p t is items rises i j d low high h = is (get_or items i d) ∙ IsPartitionedBy-leb n items t rises i j d low high (sym (is (get_or items j d)) ∙ h)
+
+pub starts_parted : (items : List Item) → IsInOrder items → (part : Part) → IsPartitionedBy (λ x. is_lt (place_in part x)) items
+starts_parted items order part = parted (λ x. ordering_index (place_in part x)) (λ x. is_lt (place_in part x)) 0 (λ x. is_lt-index (place_in part x)) items (places_rise items order part)
+
+pub ends_parted : (items : List Item) → IsInOrder items → (part : Part) → IsPartitionedBy (λ x. is_le (place_in part x)) items
+ends_parted items order part = parted (λ x. ordering_index (place_in part x)) (λ x. is_le (place_in part x)) 1 (λ x. is_le-index (place_in part x)) items (places_rise items order part)
+
+tie_between : (o : Ordering) → is_lt o ≡ false → is_le o ≡ true → IsTie o
+unfolding IsTie
+tie_between Less p q = absurd (false≢true (sym p))
+tie_between Equal p q = tt
+tie_between Greater p q = absurd (false≢true q)
+
+not_before : (o : Ordering) → IsTie o → is_lt o ≡ true → ⊥
+unfolding IsTie
+not_before Less h e = h
+not_before Equal h e = false≢true e
+not_before Greater h e = h
+
+not_behind : (o : Ordering) → IsTie o → is_le o ≡ false → ⊥
+unfolding IsTie
+not_behind Less h e = h
+not_behind Equal h e = false≢true (sym e)
+not_behind Greater h e = h
+
+-- what is between the two parts of both tests is the range
+pub range_between : (items : List Item) (part : Part) (from to : ℕ) → from ≤ length items → to ≤ length items
+    → IsPartitionPoint (λ x. is_lt (place_in part x) ≡ true) (λ x. is_lt (place_in part x) ≡ false) items from
+    → IsPartitionPoint (λ x. is_le (place_in part x) ≡ true) (λ x. is_le (place_in part x) ≡ false) items to
+    → IsRange items from to (IsIn part)
+range_between items part from to from_within to_within starts ends = record {
+  ordered = elim (cases_lt to from) [
+    | inl less ↦
+        let d : Item = item.User [] in
+        let at : Ordering = place_in part (get_or items to d) in
+        absurd (crossed at (starts.0 to d (omega arith) less) (ends.1 to d (omega arith) (omega (arith, less, from_within))))
+    | inr more ↦ more
+  ];
+  within = to_within;
+  inside = λ k d low high. (is_in part (get_or items k d)).0 (tie_between (place_in part (get_or items k d)) (starts.1 k d low (omega (arith, high, to_within))) (ends.0 k d (omega arith) high));
+  outside = λ k d within here.
+      let tied : IsTie (place_in part (get_or items k d)) = (is_in part (get_or items k d)).1 here in (
+        elim (cases_lt k from) [
+          | inl before ↦ absurd (not_before (place_in part (get_or items k d)) tied (starts.0 k d (omega arith) before))
+          | inr h ↦ h
+        ],
+        elim (cases_lt k to) [
+          | inl h ↦ h
+          | inr behind ↦ absurd (not_behind (place_in part (get_or items k d)) tied (ends.1 k d behind within))
+        ],
+      );
+}
+  where
+    crossed : (o : Ordering) → is_lt o ≡ true → is_le o ≡ false → ⊥
+    crossed Less p q = false≢true (sym q)
+    crossed Equal p q = false≢true p
+    crossed Greater p q = false≢true p

@@ -1,0 +1,4 @@
+pub mod Filing
+pub mod Graphs
+pub mod Shelves
+pub mod Spans

@@ -1,0 +1,15 @@
+//! An index of keys by number, with links both ways between the numbers.
+#![tactic(auto)]
+
+mod filing;
+mod index;
+mod lists;
+mod spans;
+mod steps;
+mod unlinking;
+
+pub use index::Index;
+pub use steps::Steps;
+
+#[cfg(test)]
+mod tests;

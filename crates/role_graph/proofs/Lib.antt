@@ -1,0 +1,5 @@
+pub mod CycleLemmas
+pub mod Growths
+pub mod MarkedLemmas
+pub mod NameLemmas
+pub mod TrailLemmas
