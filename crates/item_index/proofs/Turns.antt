@@ -1,9 +1,9 @@
 -- Numbers in turn: what keys and free numbers are after removes and inserts, and that they come back.
-use Rattle.std.proofs.Common.{◌≡◌, ℕ, zero, suc, ◌+◌, ◌-◌, ◌<◌, ◌≤◌, ◌⊎◌, ◌≢◌, Bool, true, false, cond, nat_eq, List, [], ◌∷◌, ◌++◌, length, reverse, get_or, slice_get, Option, Some, None, sym, ◌∙◌, ap, refl, inl, inr, subst, arith, eq-eqb}
+use Rattle.std.proofs.Common.{◌≡◌, ℕ, zero, suc, ◌+◌, ◌<◌, ◌≤◌, ◌≢◌, Bool, true, false, cond, List, [], ◌∷◌, ◌++◌, length, reverse, get_or, slice_get, Option, Some, None, sym, ◌∙◌, ap, refl, inl, inr, subst, arith}
 use Rattle.std.specs.List.{slice_set}
 use Rattle.std.proofs.lemmas.List.{length-set, length-append, reverse-append}
-use Rattle.std.proofs.lemmas.Option.{get_or_from_slice_get, slice_get-get_or, slice_get_past, slice_get_within}
-use Rattle.std.proofs.lemmas.Bool.{cases_eq, cases_lt, ne_eqb}
+use Rattle.std.proofs.lemmas.Option.{slice_get-get_or, slice_get_past, slice_get_within}
+use Rattle.std.proofs.lemmas.Bool.{cases_eq, cases_lt}
 use Rattle.item_index.specs.Graphs.{is_free}
 use Rattle.item_index.specs.Shelves.{times}
 use Rattle.item_index.specs.Undo.{flat, number_in_turn}
@@ -86,8 +86,9 @@ module _ {K : Type 0} where
   -- after a key is struck out
   pub keys-strike_same : (b : Book K) (n : ℕ) → at_number (strike b n) n ≡ None
   keys-strike_same b n = elim (cases_lt n (length b.0)) [
-      inl lt ↦ ap flat (slice_get-set_same b.0 n None lt)
-    | inr ge ↦ ap flat (slice_get_past (slice_set b.0 n None) n (let e = length-set b.0 n None in omega arith)) ]
+    | inl lt ↦ ap flat (slice_get-set_same b.0 n None lt)
+    | inr ge ↦ ap flat (slice_get_past (slice_set b.0 n None) n (let e = length-set b.0 n None in omega arith))
+  ]
 
   pub keys-strike_other : (b : Book K) (n m : ℕ) → m ≢ n → at_number (strike b n) m ≡ at_number b m
   keys-strike_other b n m ne = ap flat (slice_get-set_other b.0 n m None ne)
@@ -98,8 +99,9 @@ module _ {K : Type 0} where
   pub AreAlike-strike : (b c : Book K) (n : ℕ) → AreAlike b c → AreAlike (strike b n) (strike c n)
   AreAlike-strike b c n a = record {
     keys = λ m. elim (cases_eq m n) [
-        inl e ↦ rw e (keys-strike_same b n ∙ sym (keys-strike_same c n))
-      | inr ne ↦ keys-strike_other b n m ne ∙ a.keys m ∙ sym (keys-strike_other c n m ne) ];
+      | inl e ↦ rw e (keys-strike_same b n ∙ sym (keys-strike_same c n))
+      | inr ne ↦ keys-strike_other b n m ne ∙ a.keys m ∙ sym (keys-strike_other c n m ne)
+    ];
     turns = strike_turns b c n a;
   }
     where
@@ -110,8 +112,9 @@ module _ {K : Type 0} where
   pub AreAlike-put : (b c : Book K) (k : K) → IsOrderly b → IsOrderly c → AreAlike b c → AreAlike (put b k) (put c k)
   AreAlike-put b c k o p a = record {
     keys = λ m. elim (cases_eq m (in_turn b 0)) [
-        inl e ↦ ap (at_number (put b k)) e ∙ keys-put_same b k o ∙ sym (ap (at_number (put c k)) (e ∙ a.turns 0) ∙ keys-put_same c k p)
-      | inr ne ↦ keys-put_other b k m ne ∙ a.keys m ∙ sym (keys-put_other c k m (λ e. ne (e ∙ sym (a.turns 0)))) ];
+      | inl e ↦ ap (at_number (put b k)) e ∙ keys-put_same b k o ∙ sym (ap (at_number (put c k)) (e ∙ a.turns 0) ∙ keys-put_same c k p)
+      | inr ne ↦ keys-put_other b k m ne ∙ a.keys m ∙ sym (keys-put_other c k m (λ e. ne (e ∙ sym (a.turns 0))))
+    ];
     turns = λ i. turns-put b k i ∙ a.turns (suc i) ∙ sym (turns-put c k i);
   }
 
@@ -119,8 +122,9 @@ module _ {K : Type 0} where
   pub strike-put : (b : Book K) (k : K) → IsOrderly b → AreAlike (strike (put b k) (in_turn b 0)) b
   strike-put b k o = record {
     keys = λ m. elim (cases_eq m (in_turn b 0)) [
-        inl e ↦ rw e (keys-strike_same (put b k) (in_turn b 0) ∙ sym (o.vacant 0))
-      | inr ne ↦ keys-strike_other (put b k) (in_turn b 0) m ne ∙ keys-put_other b k m ne ];
+      | inl e ↦ rw e (keys-strike_same (put b k) (in_turn b 0) ∙ sym (o.vacant 0))
+      | inr ne ↦ keys-strike_other (put b k) (in_turn b 0) m ne ∙ keys-put_other b k m ne
+    ];
     turns = struck_turns b k;
   }
     where
@@ -132,15 +136,17 @@ module _ {K : Type 0} where
   pub put-strike : (b : Book K) (n : ℕ) (k : K) → at_number b n ≡ Some k → AreAlike (put (strike b n) k) b
   put-strike b n k is = record {
     keys = λ m. elim (cases_eq m n) [
-        inl e ↦ rw e (ap flat (slice_get-set_same (slice_set b.0 n None) n (Some k) (rw (length-set b.0 n None) (key_within b n k is))) ∙ sym is)
-      | inr ne ↦ ap flat (slice_get-set_other (slice_set b.0 n None) n m (Some k) ne) ∙ keys-strike_other b n m ne ];
+      | inl e ↦ rw e (ap flat (slice_get-set_same (slice_set b.0 n None) n (Some k) (rw (length-set b.0 n None) (key_within b n k is))) ∙ sym is)
+      | inr ne ↦ ap flat (slice_get-set_other (slice_set b.0 n None) n m (Some k) ne) ∙ keys-strike_other b n m ne
+    ];
     turns = λ i. ap (λ (fresh : ℕ). number_in_turn b.1 fresh i) (length-set (slice_set b.0 n None) n (Some k) ∙ length-set b.0 n None);
   }
     where
       key_within : (b : Book K) (n : ℕ) (k : K) → at_number b n ≡ Some k → n < length b.0
       key_within b n k is = elim (cases_lt n (length b.0)) [
-          inl lt ↦ lt
-        | inr ge ↦ let past : at_number b n ≡ None = ap flat (slice_get_past b.0 n ge) in cc ]
+        | inl lt ↦ lt
+        | inr ge ↦ let past : at_number b n ≡ None = ap flat (slice_get_past b.0 n ge) in cc
+      ]
 
   -- many in turn
   abbrev pub put_all : Book K → List K → Book K
@@ -175,8 +181,9 @@ module _ {K : Type 0} where
 
   key_within : (b : Book K) (n : ℕ) (k : K) → at_number b n ≡ Some k → n < length b.0
   key_within b n k is = elim (cases_lt n (length b.0)) [
-      inl lt ↦ lt
-    | inr ge ↦ let past : at_number b n ≡ None = ap flat (slice_get_past b.0 n ge) in cc ]
+    | inl lt ↦ lt
+    | inr ge ↦ let past : at_number b n ≡ None = ap flat (slice_get_past b.0 n ge) in cc
+  ]
 
   pub IsOrderly-strike : (b : Book K) (n : ℕ) (k : K) → at_number b n ≡ Some k → IsOrderly b → IsOrderly (strike b n)
   IsOrderly-strike b n k is o = record { vacant = vacant; once = once; within = within }
@@ -225,10 +232,12 @@ module _ {K : Type 0} where
       let before = strike_all (put_all next keys) (reverse (turns_of next keys)) in
       let rest = strike_all-put_all next keys (IsOrderly-put b k o) in
       let is : strike_all (put_all next keys) (reverse (in_turn b 0 ∷ turns_of next keys)) ≡ strike before (in_turn b 0)
-          = ap (strike_all (put_all next keys)) (reverse-cons (in_turn b 0) (turns_of next keys)) ∙ strike_all-push (put_all next keys) (reverse (turns_of next keys)) (in_turn b 0) in
+      = ap (strike_all (put_all next keys)) (reverse-cons (in_turn b 0) (turns_of next keys)) ∙ strike_all-push (put_all next keys) (reverse (turns_of next keys)) (in_turn b 0) in
       let has : at_number before (in_turn b 0) ≡ Some k = rest.0.keys (in_turn b 0) ∙ keys-put_same b k o in
-      rw is (AreAlike-trans (strike before (in_turn b 0)) (strike next (in_turn b 0)) b (AreAlike-strike before next (in_turn b 0) rest.0) (strike-put b k o),
-        IsOrderly-strike before (in_turn b 0) k has rest.1)
+      rw is (
+        AreAlike-trans (strike before (in_turn b 0)) (strike next (in_turn b 0)) b (AreAlike-strike before next (in_turn b 0) rest.0) (strike-put b k o),
+        IsOrderly-strike before (in_turn b 0) k has rest.1,
+      )
 
   -- what was struck out is put in, last first, and has its numbers again
   pub put_all-strike_all : (b : Book K) (numbers : List ℕ) (keys : List K) → HadKeys b numbers keys → IsOrderly b
@@ -245,8 +254,8 @@ module _ {K : Type 0} where
       let before_orderly = IsOrderly-put_all least (reverse keys) (IsOrderly-strike_all less numbers keys had.1 less_orderly) in
       let is : put_all least (reverse (k ∷ keys)) ≡ put before k = ap (put_all least) (reverse-cons k keys) ∙ put_all-push least (reverse keys) k in
       let turns : turns_of least (reverse (k ∷ keys)) ≡ reverse (n ∷ numbers)
-          = ap (turns_of least) (reverse-cons k keys) ∙ turns_of-push least (reverse keys) k ∙ ap (λ (ns : List ℕ). ns ++ in_turn before 0 ∷ []) rest.1
-          ∙ ap (λ (m : ℕ). reverse numbers ++ m ∷ []) (rest.0.turns 0) ∙ sym (reverse-cons n numbers) in
+      = ap (turns_of least) (reverse-cons k keys) ∙ turns_of-push least (reverse keys) k ∙ ap (λ (ns : List ℕ). ns ++ in_turn before 0 ∷ []) rest.1
+      ∙ ap (λ (m : ℕ). reverse numbers ++ m ∷ []) (rest.0.turns 0) ∙ sym (reverse-cons n numbers) in
       (rw is (AreAlike-trans (put before k) (put less k) b (AreAlike-put before less k before_orderly less_orderly rest.0) (put-strike b n k had.0)), turns)
 
   -- the numbers given had no keys
@@ -308,14 +317,18 @@ module _ {K : Type 0} (keys : List (Option K)) (free : List ℕ) (once : (n : �
   pub IsOrderly-whole : IsOrderly (keys, free)
   IsOrderly-whole = record {
     vacant = λ i. elim (cases_lt i (length free)) [
-        inl lt ↦ rw (in_turn-free free (length keys) i lt) (ap flat (listed i lt))
-      | inr ge ↦ ap flat (slice_get_past keys (number_in_turn free (length keys) i) (let e = in_turn-fresh free (length keys) i ge in omega arith)) ];
+      | inl lt ↦ rw (in_turn-free free (length keys) i lt) (ap flat (listed i lt))
+      | inr ge ↦ ap flat (slice_get_past keys (number_in_turn free (length keys) i) (let e = in_turn-fresh free (length keys) i ge in omega arith))
+    ];
     once = λ i j e. elim (cases_lt i (length free)) [
-        inl li ↦ elim (cases_lt j (length free)) [
-            inl lj ↦ one_place free (number_in_turn free (length keys) i) i j (few (number_in_turn free (length keys) i)) li lj (sym (in_turn-free free (length keys) i li)) (sym (in_turn-free free (length keys) j lj) ∙ sym e)
-          | inr gj ↦ let a = below_keys i li in let b = in_turn-fresh free (length keys) j gj in absurd (omega arith) ]
+      | inl li ↦ elim (cases_lt j (length free)) [
+        | inl lj ↦ one_place free (number_in_turn free (length keys) i) i j (few (number_in_turn free (length keys) i)) li lj (sym (in_turn-free free (length keys) i li)) (sym (in_turn-free free (length keys) j lj) ∙ sym e)
+        | inr gj ↦ let a = below_keys i li in let b = in_turn-fresh free (length keys) j gj in absurd (omega arith)
+      ]
       | inr gi ↦ elim (cases_lt j (length free)) [
-            inl lj ↦ let a = below_keys j lj in let b = in_turn-fresh free (length keys) i gi in absurd (omega arith)
-          | inr gj ↦ let a = in_turn-fresh free (length keys) i gi in let b = in_turn-fresh free (length keys) j gj in omega arith ] ];
+        | inl lj ↦ let a = below_keys j lj in let b = in_turn-fresh free (length keys) i gi in absurd (omega arith)
+        | inr gj ↦ let a = in_turn-fresh free (length keys) i gi in let b = in_turn-fresh free (length keys) j gj in omega arith
+      ]
+    ];
     within = below_keys;
   }

@@ -1,5 +1,5 @@
 -- Removes, inserts and links, and how they are undone.
-use Rattle.std.specs.Prelude.{◌≡◌, ℕ, ◌+◌, zero, suc, Bool, ◌||◌, nat_eq, List, [], ◌∷◌, length, filter, reverse, Option, Some, None, All, slice_get, true}
+use Rattle.std.specs.Prelude.{◌≡◌, ℕ, ◌+◌, ◌≤◌, zero, suc, Bool, ◌||◌, nat_eq, List, [], ◌∷◌, length, reverse, Option, Some, None, All, slice_get, true}
 use Rattle.std.specs.List.{list_any}
 use Rattle.std.specs.List.Sorted.{IsPermutation}
 use Rattle.item_index.specs.Graphs.{AreLinks, Graph, HasKey, IsNode, inserted, linked, next_number, removed}
@@ -70,9 +70,16 @@ module _ {K : Type 0} where
   AreNewLinks g out new added = All (λ l. (touches (numbers_given (removed_all g out) new) l ≡ true)
       × IsNode (inserted_all (removed_all g out) new) l.0 × IsNode (inserted_all (removed_all g out) new) l.1) added
 
+  -- there is room for each key and link of a change
+  pub record HasRoomFor (g : Graph K) (out : List ℕ) (new : List K) (added : List (ℕ × ℕ)) : Type 0 where
+    pub keys_fit : length new ≤ (removed_all g out).spare_keys
+    pub links_fit : length added ≤ (removed_all g out).spare_links
+
   -- each number has the key that it had, each later key gets the number that it would have got, and there are
-  -- the same links, in whatever order
+  -- the same links, in whatever order, and the same room
   pub record IsAsBefore (g back : Graph K) (links : List (ℕ × ℕ)) : Type 0 where
     pub keys : (n : ℕ) → key_at back n ≡ key_at g n
     pub numbers : (i : ℕ) → number_at back i ≡ number_at g i
     pub same_links : (others : List (ℕ × ℕ)) × AreLinks back others × IsPermutation links others
+    pub spare_keys : back.spare_keys ≡ g.spare_keys
+    pub spare_links : back.spare_links ≡ g.spare_links
