@@ -255,25 +255,25 @@ module _ {K : Type 0} (eq : K → K → Bool) (laws : IsEquivalence eq) (keys : 
 abbrev pub has_part : ℕ → ℕ × ℕ → Bool
 has_part n l = nat_eq l.0 n || nat_eq l.1 n
 
-kept_link : (n a b : ℕ) (links : List (ℕ × ℕ)) → (a ≡ n → ⊥) → (b ≡ n → ⊥) → links_without n ((a, b) ∷ links) ≡ (a, b) ∷ links_without n links
+pub kept_link : (n a b : ℕ) (links : List (ℕ × ℕ)) → (a ≡ n → ⊥) → (b ≡ n → ⊥) → links_without n ((a, b) ∷ links) ≡ (a, b) ∷ links_without n links
 kept_link n a b links na nb = rw (ne_eqb a n na, ne_eqb b n nb) refl
 
-left_link_from : (n a b : ℕ) (links : List (ℕ × ℕ)) → a ≡ n → links_without n ((a, b) ∷ links) ≡ links_without n links
+pub left_link_from : (n a b : ℕ) (links : List (ℕ × ℕ)) → a ≡ n → links_without n ((a, b) ∷ links) ≡ links_without n links
 left_link_from n a b links e = rw (eq-eqb a n e) refl
 
-left_link_to : (n a b : ℕ) (links : List (ℕ × ℕ)) → (a ≡ n → ⊥) → b ≡ n → links_without n ((a, b) ∷ links) ≡ links_without n links
+pub left_link_to : (n a b : ℕ) (links : List (ℕ × ℕ)) → (a ≡ n → ⊥) → b ≡ n → links_without n ((a, b) ∷ links) ≡ links_without n links
 left_link_to n a b links na e = rw (ne_eqb a n na, eq-eqb b n e) refl
 
-rests_of-cons_same : (m a b : ℕ) (links : List (ℕ × ℕ)) → a ≡ m → rests_of ((a, b) ∷ links) m ≡ b ∷ rests_of links m
+pub rests_of-cons_same : (m a b : ℕ) (links : List (ℕ × ℕ)) → a ≡ m → rests_of ((a, b) ∷ links) m ≡ b ∷ rests_of links m
 rests_of-cons_same m a b links e = rw (eq-eqb a m e) refl
 
-rests_of-cons_other : (m a b : ℕ) (links : List (ℕ × ℕ)) → (a ≡ m → ⊥) → rests_of ((a, b) ∷ links) m ≡ rests_of links m
+pub rests_of-cons_other : (m a b : ℕ) (links : List (ℕ × ℕ)) → (a ≡ m → ⊥) → rests_of ((a, b) ∷ links) m ≡ rests_of links m
 rests_of-cons_other m a b links ne = rw (ne_eqb a m ne) refl
 
-dependents_of-cons_same : (m a b : ℕ) (links : List (ℕ × ℕ)) → b ≡ m → dependents_of ((a, b) ∷ links) m ≡ a ∷ dependents_of links m
+pub dependents_of-cons_same : (m a b : ℕ) (links : List (ℕ × ℕ)) → b ≡ m → dependents_of ((a, b) ∷ links) m ≡ a ∷ dependents_of links m
 dependents_of-cons_same m a b links e = rw (eq-eqb b m e) refl
 
-dependents_of-cons_other : (m a b : ℕ) (links : List (ℕ × ℕ)) → (b ≡ m → ⊥) → dependents_of ((a, b) ∷ links) m ≡ dependents_of links m
+pub dependents_of-cons_other : (m a b : ℕ) (links : List (ℕ × ℕ)) → (b ≡ m → ⊥) → dependents_of ((a, b) ∷ links) m ≡ dependents_of links m
 dependents_of-cons_other m a b links ne = rw (ne_eqb b m ne) refl
 
 pub rests_of-without_same : (links : List (ℕ × ℕ)) (n : ℕ) → rests_of (links_without n links) n ≡ []

@@ -6,3 +6,5 @@ pub mod Packing
 pub mod Places
 pub mod SpanLemmas
 pub mod Times
+pub mod Turns
+pub mod Undoing

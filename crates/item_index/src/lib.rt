@@ -3,12 +3,14 @@
 
 mod filing;
 mod index;
+mod laws;
 mod lists;
 mod spans;
 mod steps;
 mod unlinking;
 
 pub use index::Index;
+pub use laws::a_change_undone_in_reverse;
 pub use steps::Steps;
 
 #[cfg(test)]
