@@ -1,5 +1,5 @@
 pub mod InformationProofs
 pub mod AlterProofs
-pub mod TableProofs
 pub mod RightsProofs
+pub mod CreateProofs
 pub mod StatementProofs

@@ -16,7 +16,7 @@ use Rattle.sql_phrases.specs.Reading.{peek, next, sees, after}
 use Rattle.sql_phrases.specs.Shapes.{Spelled, Token, token, Separated, Optional}
 use Rattle.sql_phrases.specs.NameRules.{IsIdentifier, IsLiteralName, IsObjectName, IsIdentifiers}
 use Rattle.sql_grammar.specs.RightsRules.{IsBehaviour, IsGrantorAfter, IsGrantedBy, IsGrantee, IsPrivilegesOn, IsWithOption, IsOptionFor, whole, option_for}
-use Rattle.sql_grammar.specs.StatementRules.{IsRoleChoice, by_literal, by_name, no_role, IsSchemaNameClause, named, authorization, IsDropKind, table, view, domain, assertion, function, procedure, routine, IsStatement, connect, set_connection, disconnect, set_schema, set_role, create_schema, create_role, create_table, alter_table, alter_domain, select, drop_role, drop_schema, drop_object, grant_privileges, revoke_privileges, grant_roles, revoke_roles}
+use Rattle.sql_grammar.specs.StatementRules.{IsRoleChoice, by_literal, by_name, no_role, IsSchemaNameClause, named, authorization, IsDropKind, table, view, domain, assertion, function, procedure, routine, IsStatement, connect, set_connection, disconnect, set_schema, set_role, create_schema, create_role, create_table, create_view, create_domain, create_assertion, create_function, create_procedure, alter_table, alter_domain, select, drop_role, drop_schema, drop_object, grant_privileges, revoke_privileges, grant_roles, revoke_roles}
 use Rattle.sql_phrases.specs.declared.error.GrammarError.{GrammarError}
 use Rattle.sql_phrases.specs.declared.error.GrammarError.TheVariants.{Syntax, NotInProfile, Memory}
 use Rattle.sql_phrases.specs.Parsers.{Reads, separated}
@@ -25,12 +25,15 @@ use Rattle.sql_grammar.specs.RightsParsers as rights
 use Rattle.sql_grammar.specs.RightsParsers.{names_then}
 use Rattle.sql_grammar.specs.StatementParsers as parse
 use Rattle.sql_grammar.specs.StatementParsers.{sees_admin_option}
-use Rattle.sql_phrases.proofs.Follow.{follows, continues, Below, below_more, passes, sees_is, sees_other}
+use Rattle.sql_phrases.proofs.Follow.{follows, Below, below_more, passes, sees_is, sees_other}
 use Rattle.sql_phrases.proofs.Lists.{Gives, gives_none, gives_some, gives_then, gives_if, after_not, token_next, token_seen, gives_eat, gives_expect, expect_at, sees_at, after_at, next_at, peek_at, below_token, Parses, optional_complete, optional_sound}
 use Rattle.sql_phrases.proofs.NameProofs.{identifier_at, gives_identifier, identifier_never, literal_name_at, gives_literal_name, literal_name_begins, object_name_at, gives_object_name, identifiers_parse}
 use Rattle.sql_grammar.proofs.RightsProofs.{behaviour_at, gives_behaviour, behaviour_below, grantor_after_at, gives_grantor_after, granted_by_at, gives_granted_by, granted_by_below, grantees_parse, privileges_on_at, gives_privileges_on, privileges_on_never, privileges_on_then, with_option_at, gives_with_option, with_option_below, option_for_at, gives_option_for, names_then_no, roles_then}
 use Rattle.sql_grammar.proofs.AlterProofs.{alter_table_action_at, gives_alter_table_action, alter_table_action_begins, alter_domain_action_at, gives_alter_domain_action, alter_domain_action_begins}
-use Rattle.sql_grammar.proofs.TableProofs.{table_elements_at, gives_table_elements, table_elements_begin}
+use Rattle.sql_expressions.proofs.Binding.{binds}
+use Rattle.sql_expressions.proofs.WithinProofs.{expr_within_parses, query_within_parses}
+use Rattle.sql_definitions.proofs.Continuing.{continues}
+use Rattle.sql_grammar.proofs.CreateProofs.{create_table_at, create_view_at, create_domain_at, create_assertion_at, create_function_at, create_procedure_at, gives_create_table, gives_create_view, gives_create_domain, gives_create_assertion, gives_create_function, gives_create_procedure}
 use Rattle.sql_grammar.proofs.InformationProofs.{info_query_at, gives_info_query}
 
 -- ---- lit | name | NONE
@@ -91,28 +94,33 @@ admin_option_no_roles (token h) (token e) = rw (h, e) refl
 
 -- ---- statements
 
-pub statement_at : (x : Statement) (ws rest : List Word) → IsStatement x ws rest → Below follows 1 rest → Below continues 1 rest → parse.statement ws ≡ Some (x, rest)
-unfolding parse.statement parse.connect parse.set parse.create parse.create_schema parse.create_role parse.create_table parse.admin parse.alter parse.alter_table parse.alter_domain parse.drop parse.drop_schema parse.drop_object parse.grant parse.grant_privileges parse.grant_roles parse.revoke parse.revoke_privileges parse.revoke_roles parse.revoke_admin_option sees_admin_option is_name same_kind
-statement_at x ws rest (connect {connection = cn} {c = c} {d = d} t o s an u n) e z =
+pub statement_at : (x : Statement) (ws rest : List Word) → IsStatement x ws rest → Below follows 1 rest → Below continues 1 rest → Below binds 1 rest → parse.statement ws ≡ Some (x, rest)
+unfolding parse.statement parse.connect parse.set parse.create parse.create_schema parse.create_role parse.admin parse.alter parse.alter_table parse.alter_domain parse.drop parse.drop_schema parse.drop_object parse.grant parse.grant_privileges parse.grant_roles parse.revoke parse.revoke_privileges parse.revoke_roles parse.revoke_admin_option sees_admin_option is_name same_kind
+statement_at x ws rest (connect {connection = cn} {c = c} {d = d} t o s an u n) e z g =
     rw (peek_at t, next_at t, expect_at o, literal_name_at s, optional_complete k.As names.literal_name IsLiteralName cn c d an (sees_other k.As k.User d (peek_at u) refl) (λ y a r. literal_name_at r), expect_at u, literal_name_at n)
-statement_at x ws rest (set_connection t c n) e z = rw (peek_at t, next_at t, peek_at c, next_at c, literal_name_at n)
-statement_at x ws rest (disconnect t n) e z = rw (peek_at t, next_at t, literal_name_at n)
-statement_at x ws rest (set_schema t c n) e z = rw (peek_at t, next_at t, peek_at c, next_at c, literal_name_at n)
-statement_at x ws rest (set_role t c r) e z = rw (peek_at t, next_at t, peek_at c, next_at c, role_choice_at r)
-statement_at x ws rest (create_schema t c n) e z = rw (peek_at t, next_at t, peek_at c, next_at c, schema_name_clause_at n e)
-statement_at x ws rest (create_role {admin = ad} {c = l} t c n a) e z =
+statement_at x ws rest (set_connection t c n) e z g = rw (peek_at t, next_at t, peek_at c, next_at c, literal_name_at n)
+statement_at x ws rest (disconnect t n) e z g = rw (peek_at t, next_at t, literal_name_at n)
+statement_at x ws rest (set_schema t c n) e z g = rw (peek_at t, next_at t, peek_at c, next_at c, literal_name_at n)
+statement_at x ws rest (set_role t c r) e z g = rw (peek_at t, next_at t, peek_at c, next_at c, role_choice_at r)
+statement_at x ws rest (create_schema t c n) e z g = rw (peek_at t, next_at t, peek_at c, next_at c, schema_name_clause_at n e)
+statement_at x ws rest (create_role {admin = ad} {c = l} t c n a) e z g =
     rw (peek_at t, next_at t, peek_at c, next_at c, identifier_at n, optional_complete k.With (rights.grantor_after k.Admin) (IsGrantorAfter k.Admin) ad l rest a (passes follows 1 k.With rest e (lit≤ tt)) (λ y b r. grantor_after_at r))
-statement_at x ws rest (create_table t c o es) e z = rw (peek_at t, next_at t, peek_at c, next_at c, object_name_at o (table_elements_begin 63 es), table_elements_at 63 es)
-statement_at x ws rest (alter_table t c o act) e z = rw (peek_at t, next_at t, sees_at c, after_at c, object_name_at o (alter_table_action_begins act), alter_table_action_at act e z)
-statement_at x ws rest (alter_domain {a = a} t c o act) e z =
+statement_at x ws rest (create_table t c o es) e z g = rw (peek_at t, next_at t, peek_at c, next_at c, create_table_at o es)
+statement_at x ws rest (create_view t c o cs u is) e z g = rw (peek_at t, next_at t, peek_at c, next_at c, create_view_at o cs u is g)
+statement_at x ws rest (create_domain t c o u ty v m) e z g = rw (peek_at t, next_at t, peek_at c, next_at c, create_domain_at o u ty v m e z)
+statement_at x ws rest (create_assertion t c o is) e z g = rw (peek_at t, next_at t, peek_at c, next_at c, create_assertion_at o is)
+statement_at x ws rest (create_function t c o ps r ty l u is) e z g = rw (peek_at t, next_at t, peek_at c, next_at c, create_function_at o ps r ty l u is g)
+statement_at x ws rest (create_procedure t c o ps l b a xs d) e z g = rw (peek_at t, next_at t, peek_at c, next_at c, create_procedure_at o ps l b a xs d)
+statement_at x ws rest (alter_table t c o act) e z g = rw (peek_at t, next_at t, sees_at c, after_at c, object_name_at o (alter_table_action_begins act), alter_table_action_at act e z)
+statement_at x ws rest (alter_domain {a = a} t c o act) e z g =
     let b = sees_other k.Table k.Domain a (peek_at c) refl in
-    rw (peek_at t, next_at t, b, after_not k.Table a b, expect_at c, object_name_at o (alter_domain_action_begins act), alter_domain_action_at act)
-statement_at x ws rest (select q) e z = let p = info_query_at q e in rw (p.0, p.1)
-statement_at x ws rest (drop_role t c n) e z = rw (peek_at t, next_at t, peek_at c, next_at c, identifier_at n)
-statement_at x ws rest (drop_schema t c n b) e z = rw (peek_at t, next_at t, peek_at c, next_at c, identifier_at n, behaviour_at b e)
-statement_at x ws rest (drop_object {c = l} t c o b) e z =
+    rw (peek_at t, next_at t, b, after_not k.Table a b, expect_at c, object_name_at o (alter_domain_action_begins act), alter_domain_action_at act z)
+statement_at x ws rest (select q) e z g = let p = info_query_at q e in rw (p.0, p.1)
+statement_at x ws rest (drop_role t c n) e z g = rw (peek_at t, next_at t, peek_at c, next_at c, identifier_at n)
+statement_at x ws rest (drop_schema t c n b) e z g = rw (peek_at t, next_at t, peek_at c, next_at c, identifier_at n, behaviour_at b e)
+statement_at x ws rest (drop_object {c = l} t c o b) e z g =
     rw (peek_at t, next_at t, drop_kind_at c, object_name_at o (passes follows 2 k.Period l (behaviour_below b e) (lit≤ tt)), behaviour_at b e)
-statement_at x ws rest (grant_privileges {gs = gs} {b = l} {c = c} {d = d} t on o m w by) e z =
+statement_at x ws rest (grant_privileges {gs = gs} {b = l} {c = c} {d = d} t on o m w by) e z g =
     let s = below_more follows 1 2 rest e (lit≤ tt) in
     rw (
       peek_at t,
@@ -124,7 +132,7 @@ statement_at x ws rest (grant_privileges {gs = gs} {b = l} {c = c} {d = d} t on 
       with_option_at w (granted_by_below by s),
       granted_by_at by s,
     )
-statement_at x ws rest (revoke_privileges {gs = gs} {b = l} {c = c} {d = d} {e = i} t op on o m by b) e z =
+statement_at x ws rest (revoke_privileges {gs = gs} {b = l} {c = c} {d = d} {e = i} t op on o m by b) e z g =
     let s = behaviour_below b e in
     rw (
       peek_at t,
@@ -138,7 +146,7 @@ statement_at x ws rest (revoke_privileges {gs = gs} {b = l} {c = c} {d = d} {e =
       granted_by_at by s,
       behaviour_at b e,
     )
-statement_at x ws rest (grant_roles {roles = rs} {gs = gs} {a = a} {b = l} {c = c} {d = d} t r o m w by) e z =
+statement_at x ws rest (grant_roles {roles = rs} {gs = gs} {a = a} {b = l} {c = c} {d = d} t r o m w by) e z g =
     let s = below_more follows 1 2 rest e (lit≤ tt) in
     rw (
       peek_at t,
@@ -150,7 +158,7 @@ statement_at x ws rest (grant_roles {roles = rs} {gs = gs} {a = a} {b = l} {c = 
       with_option_at w (granted_by_below by s),
       granted_by_at by s,
     )
-statement_at x ws rest (revoke_roles {roles = rs} {gs = gs} {a = a} {b = l} {c = c} {d = d} {e = i} t whole r o m by b) e z =
+statement_at x ws rest (revoke_roles {roles = rs} {gs = gs} {a = a} {b = l} {c = c} {d = d} {e = i} t whole r o m by b) e z g =
     let s = behaviour_below b e in
     rw (
       peek_at t,
@@ -162,7 +170,7 @@ statement_at x ws rest (revoke_roles {roles = rs} {gs = gs} {a = a} {b = l} {c =
       granted_by_at by s,
       behaviour_at b e,
     )
-statement_at x ws rest (revoke_roles {roles = rs} {gs = gs} {a = a} {b = l} {c = c} {d = d} {e = i} t (option_for w p f) r o m by b) e z =
+statement_at x ws rest (revoke_roles {roles = rs} {gs = gs} {a = a} {b = l} {c = c} {d = d} {e = i} t (option_for w p f) r o m by b) e z g =
     let s = behaviour_below b e in
     rw (
       peek_at t,
@@ -192,11 +200,16 @@ gives_set t k.Role e = gives_then gives_role_choice (λ r rest is. gives_some (s
 gives_set t _ e = gives_none
 
 gives_create : {ws a : List Word} → Token k.Create ws a → (kind : Kind) → peek a ≡ kind → Gives (parse.create_by kind a) (λ x rest. IsStatement x ws rest)
-unfolding parse.create_schema parse.create_role parse.create_table parse.admin
+unfolding parse.create_schema parse.create_role parse.admin
 gives_create t k.Schema e = gives_then gives_schema_name_clause (λ n rest is. gives_some (create_schema t (token_next k.Schema tt e) is))
 gives_create t k.Role e = gives_then gives_identifier (λ n b is. gives_then (optional_sound k.With tt (rights.grantor_after k.Admin) (IsGrantorAfter k.Admin) (gives_grantor_after k.Admin tt) b)
     (λ ad rest an. gives_some (create_role t (token_next k.Role tt e) is an)))
-gives_create t k.Table e = gives_then gives_object_name (λ o b is. gives_then (gives_table_elements 63) (λ es rest is'. gives_some (create_table t (token_next k.Table tt e) is is')))
+gives_create t k.Table e = gives_create_table t (token_next k.Table tt e)
+gives_create t k.View e = gives_create_view t (token_next k.View tt e)
+gives_create t k.Domain e = gives_create_domain t (token_next k.Domain tt e)
+gives_create t k.Assertion e = gives_create_assertion t (token_next k.Assertion tt e)
+gives_create t k.Function e = gives_create_function t (token_next k.Function tt e)
+gives_create t k.Procedure e = gives_create_procedure t (token_next k.Procedure tt e)
 gives_create t _ e = gives_none
 
 gives_alter : {ws a : List Word} → Token k.Alter ws a → Gives (parse.alter a) (λ x rest. IsStatement x ws rest)
@@ -277,7 +290,7 @@ found ws x h = (statement_sound ws).given x [] h
 
 -- what all the words spell is read
 pub must : (ws : List Word) (x : Statement) → IsStatement x ws [] → parse.statement ws ≡ Some (x, [])
-must ws x r = statement_at x ws [] r (record { below = lit< tt }) (record { below = lit< tt })
+must ws x r = statement_at x ws [] r (record { below = lit< tt }) (record { below = lit< tt }) (record { below = lit< tt })
 
 pub only : (ws : List Word) (a b : Statement) → IsStatement a ws [] → IsStatement b ws [] → a ≡ b
 only ws a b r s = (some_pair_parts a b [] [] (sym (must ws a r) ∙ must ws b s)).0

@@ -11,7 +11,8 @@ use Rattle.sql_phrases.specs.Parsers.{Outcome, Parser, and_then, ◌>>=◌, ◌>
 use Rattle.sql_phrases.specs.NameParsers.{identifier, sees_name}
 use Rattle.sql_grammar.specs.RightsParsers.{behaviour}
 use Rattle.sql_phrases.specs.TypeParsers as types
-use Rattle.sql_grammar.specs.TableParsers.{column_definition, table_constraint}
+use Rattle.sql_definitions.specs.CheckParsers.{domain_check}
+use Rattle.sql_definitions.specs.TableParsers.{column_definition, table_constraint}
 
 unfoldable pub column_name : Parser (List ℕ)
 column_name = do
@@ -46,7 +47,7 @@ drop_part = do
 
 -- after ALTER TABLE obj ADD, where COLUMN doesn't stand
 unfoldable pub add_other : Parser AlterTableAction
-add_other = λ ws. if sees_name ws then (tables.AddColumn <$> column_definition 64) ws else (tables.AddConstraint <$> table_constraint) ws
+add_other = λ ws. if sees_name ws then (tables.AddColumn <$> column_definition 64) ws else (tables.AddConstraint <$> table_constraint 64) ws
 
 -- after ALTER TABLE obj ADD
 unfoldable pub add_part : Parser AlterTableAction
@@ -71,7 +72,13 @@ drop_domain_part = do
   is_default ← eat k.Default
   if is_default then pure domains.DropDefault else (expect k.Constraint >> domains.DropConstraint <$> identifier)
 
+-- after ALTER DOMAIN obj, where SET doesn't stand
+unfoldable pub add_or_drop : Parser AlterDomainAction
+add_or_drop = do
+  is_add ← eat k.Add
+  if is_add then domains.AddCheck <$> domain_check else (expect k.Drop >> drop_domain_part)
+
 unfoldable pub alter_domain_action : Parser AlterDomainAction
 alter_domain_action = do
   is_set ← eat k.Set
-  if is_set then domains.SetDefault <$> new_default else (expect k.Drop >> drop_domain_part)
+  if is_set then domains.SetDefault <$> new_default else add_or_drop

@@ -1,4 +1,4 @@
--- ALTER TABLE and ALTER DOMAIN. The checks that they add aren't in the grammar yet.
+-- ALTER TABLE and ALTER DOMAIN.
 use Rattle.std.specs.Prelude.{◌≡◌, ℕ, Bool, List}
 use Rattle.sql_tree.specs.declared.sort.Default.{Default}
 use Rattle.sql_tree.specs.declared.statement.AlterDomainAction.{AlterDomainAction}
@@ -7,6 +7,7 @@ use Rattle.sql_tree.specs.declared.statement.AlterTableAction.{AlterTableAction}
 use Rattle.sql_tree.specs.declared.statement.AlterTableAction.TheVariants as tables
 use Rattle.sql_tree.specs.declared.statement.Behaviour.{Behaviour}
 use Rattle.sql_tree.specs.declared.table.ColumnDefinition.{ColumnDefinition}
+use Rattle.sql_tree.specs.declared.table.DomainCheck.{DomainCheck}
 use Rattle.sql_tree.specs.declared.table.TableConstraint.{TableConstraint}
 use Rattle.sql_words.specs.declared.kind.Kind.TheVariants as k
 use Rattle.sql_words.specs.declared.word.Word.{Word}
@@ -14,7 +15,8 @@ use Rattle.sql_phrases.specs.Shapes.{Token, Marked}
 use Rattle.sql_phrases.specs.NameRules.{IsIdentifier}
 use Rattle.sql_grammar.specs.RightsRules.{IsBehaviour}
 use Rattle.sql_phrases.specs.TypeRules.{IsDefault}
-use Rattle.sql_grammar.specs.TableRules.{IsColumnDefinition, IsTableConstraint}
+use Rattle.sql_definitions.specs.CheckRules.{IsDomainCheck}
+use Rattle.sql_definitions.specs.TableRules.{IsColumnDefinition, IsTableConstraint}
 
 -- [COLUMN] name
 pub data IsColumnName : List ℕ → List Word → List Word → Type 0 where
@@ -25,7 +27,7 @@ pub data IsAlterTableAction : AlterTableAction → List Word → List Word → T
   -- ADD [COLUMN] coldef | ADD tcon
   add_column : {c : ColumnDefinition} {marked : Bool} {ws a b rest : List Word} → Token k.Add ws a → Marked k.Column marked a b → IsColumnDefinition 64 c b rest
       → IsAlterTableAction (tables.AddColumn c) ws rest
-  add_constraint : {c : TableConstraint} {ws a rest : List Word} → Token k.Add ws a → IsTableConstraint c a rest → IsAlterTableAction (tables.AddConstraint c) ws rest
+  add_constraint : {c : TableConstraint} {ws a rest : List Word} → Token k.Add ws a → IsTableConstraint 64 c a rest → IsAlterTableAction (tables.AddConstraint c) ws rest
   -- ALTER [COLUMN] name (SET DEFAULT default | DROP DEFAULT)
   set_default : {c : List ℕ} {d : Default} {ws a b e f rest : List Word} → Token k.Alter ws a → IsColumnName c a b → Token k.Set b e → Token k.Default e f → IsDefault d f rest
       → IsAlterTableAction (tables.SetDefault c d) ws rest
@@ -38,7 +40,8 @@ pub data IsAlterTableAction : AlterTableAction → List Word → List Word → T
 
 -- after ALTER DOMAIN obj
 pub data IsAlterDomainAction : AlterDomainAction → List Word → List Word → Type 0 where
-  -- SET DEFAULT default | DROP DEFAULT | DROP CONSTRAINT name
+  -- SET DEFAULT default | DROP DEFAULT | ADD dcheck | DROP CONSTRAINT name
   set_domain_default : {d : Default} {ws a b rest : List Word} → Token k.Set ws a → Token k.Default a b → IsDefault d b rest → IsAlterDomainAction (domains.SetDefault d) ws rest
   drop_domain_default : {ws a rest : List Word} → Token k.Drop ws a → Token k.Default a rest → IsAlterDomainAction domains.DropDefault ws rest
+  add_domain_check : {c : DomainCheck} {ws a rest : List Word} → Token k.Add ws a → IsDomainCheck c a rest → IsAlterDomainAction (domains.AddCheck c) ws rest
   drop_domain_constraint : {c : List ℕ} {ws a b rest : List Word} → Token k.Drop ws a → Token k.Constraint a b → IsIdentifier c b rest → IsAlterDomainAction (domains.DropConstraint c) ws rest

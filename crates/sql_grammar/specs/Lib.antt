@@ -2,9 +2,8 @@ pub mod RightsRules
 pub mod StatementRules
 pub mod Profile
 pub mod RightsParsers
+pub mod CreateParsers
 pub mod StatementParsers
-pub mod TableRules
-pub mod TableParsers
 pub mod AlterRules
 pub mod AlterParsers
 pub mod InformationRules

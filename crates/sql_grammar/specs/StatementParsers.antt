@@ -18,7 +18,7 @@ use Rattle.sql_phrases.specs.NameParsers.{identifier, literal_name, identifiers,
 use Rattle.sql_grammar.specs.RightsParsers.{behaviour, grantor_after, granted_by, grantee, privileges_on, with_option, option_for, names_then}
 use Rattle.sql_grammar.specs.AlterParsers.{alter_table_action, alter_domain_action}
 use Rattle.sql_grammar.specs.InformationParsers.{info_query}
-use Rattle.sql_grammar.specs.TableParsers.{table_elements}
+use Rattle.sql_grammar.specs.CreateParsers.{create_table, create_view, create_domain, create_assertion, create_function, create_procedure}
 
 unfoldable pub role_choice : Parser RoleChoice
 role_choice = λ ws. if sees k.Literal ws then (choices.Literal <$> literal_name) ws else (do
@@ -67,17 +67,15 @@ create_role = do
   by ← admin
   pure (statements.CreateRole (record { role = role; admin = by }))
 
--- after CREATE TABLE
-unfoldable pub create_table : Parser Statement
-create_table = do
-  table ← object_name
-  es ← table_elements 63
-  pure (statements.CreateTable (record { table = table; elements = es }))
-
 abbrev pub create_by : Kind → Parser Statement
 create_by k.Schema = skip >> create_schema
 create_by k.Role = skip >> create_role
 create_by k.Table = skip >> create_table
+create_by k.View = skip >> create_view
+create_by k.Domain = skip >> create_domain
+create_by k.Assertion = skip >> create_assertion
+create_by k.Function = skip >> create_function
+create_by k.Procedure = skip >> create_procedure
 create_by _ = refuse
 
 -- after CREATE

@@ -1,10 +1,18 @@
 -- Statements, and the grammar of a statement's words.
 use Rattle.std.specs.Prelude.{◌≡◌, ℕ, Bool, true, false, List, [], ◌∷◌, Option, Some, None}
+use Rattle.sql_tree.specs.declared.body.Act.{Act}
+use Rattle.sql_tree.specs.declared.body.Body.TheVariants as bodies
+use Rattle.sql_tree.specs.declared.body.Security.TheVariants.{Definer}
 use Rattle.sql_tree.specs.declared.column.ObjectName.{ObjectName}
+use Rattle.sql_tree.specs.declared.expr.Expr.{Expr}
+use Rattle.sql_tree.specs.declared.expr.Query.{Query}
 use Rattle.sql_tree.specs.declared.rights.Grantee.{Grantee}
 use Rattle.sql_tree.specs.declared.rights.Grantor.{Grantor}
 use Rattle.sql_tree.specs.declared.rights.Privileges.{Privileges}
 use Rattle.sql_tree.specs.declared.rights.Target.{Target}
+use Rattle.sql_tree.specs.declared.sort.Default.{Default}
+use Rattle.sql_tree.specs.declared.sort.Param.{Param}
+use Rattle.sql_tree.specs.declared.sort.SqlType.{SqlType}
 use Rattle.sql_tree.specs.declared.statement.AlterDomainAction.{AlterDomainAction}
 use Rattle.sql_tree.specs.declared.statement.AlterTableAction.{AlterTableAction}
 use Rattle.sql_tree.specs.declared.statement.Behaviour.{Behaviour}
@@ -17,15 +25,21 @@ use Rattle.sql_tree.specs.declared.statement.SchemaNameClause.{SchemaNameClause}
 use Rattle.sql_tree.specs.declared.statement.SchemaNameClause.TheVariants as clauses
 use Rattle.sql_tree.specs.declared.statement.Statement.{Statement}
 use Rattle.sql_tree.specs.declared.statement.Statement.TheVariants as statements
+use Rattle.sql_tree.specs.declared.table.DomainCheck.{DomainCheck}
 use Rattle.sql_tree.specs.declared.table.TableElement.{TableElement}
 use Rattle.sql_words.specs.declared.kind.Kind.TheVariants as k
 use Rattle.sql_words.specs.declared.word.Word.{Word}
-use Rattle.sql_phrases.specs.Shapes.{Spelled, Token, Separated, Optional}
-use Rattle.sql_phrases.specs.NameRules.{IsIdentifier, IsLiteralName, IsObjectName, IsIdentifiers}
+use Rattle.sql_phrases.specs.Shapes.{Spelled, Token, Separated, Repeated, Optional, Marked}
+use Rattle.sql_phrases.specs.NameRules.{IsIdentifier, IsLiteralName, IsObjectName, IsIdentifiers, IsColumns}
+use Rattle.sql_phrases.specs.TypeRules.{IsType, IsDefault}
+use Rattle.sql_expressions.specs.ExpressionRules.{IsExprWithin, IsQueryWithin}
+use Rattle.sql_definitions.specs.CheckRules.{IsCheck, IsDomainCheck}
+use Rattle.sql_definitions.specs.BodyRules.{IsActs}
+use Rattle.sql_definitions.specs.RoutineRules.{IsParams, IsLanguage}
 use Rattle.sql_grammar.specs.RightsRules.{IsBehaviour, IsGrantorAfter, IsGrantedBy, IsGrantee, IsPrivilegesOn, IsWithOption, IsOptionFor}
 use Rattle.sql_grammar.specs.AlterRules.{IsAlterTableAction, IsAlterDomainAction}
 use Rattle.sql_grammar.specs.InformationRules.{IsInfoQuery}
-use Rattle.sql_grammar.specs.TableRules.{IsTableElements}
+use Rattle.sql_definitions.specs.TableRules.{IsTableElements}
 
 -- lit | name | NONE
 pub data IsRoleChoice : RoleChoice → List Word → List Word → Type 0 where
@@ -73,6 +87,24 @@ pub data IsStatement : Statement → List Word → List Word → Type 0 where
   -- CREATE TABLE obj '(' (coldef | tcon),.. ')'
   create_table : {table : ObjectName} {es : List TableElement} {ws a b c rest : List Word} → Token k.Create ws a → Token k.Table a b → IsObjectName table b c → IsTableElements 63 es c rest
       → IsStatement (statements.CreateTable (record { table = table; elements = es })) ws rest
+  -- CREATE VIEW obj ['(' name,.. ')'] AS query
+  create_view : {v : ObjectName} {cs : List (List ℕ)} {q : Query} {ws a b c d e rest : List Word} → Token k.Create ws a → Token k.View a b → IsObjectName v b c → IsColumns cs c d → Token k.As d e
+      → IsQueryWithin false 65 q e rest → IsStatement (statements.CreateView (record { view = v; columns = cs; query = q })) ws rest
+  -- CREATE DOMAIN obj [AS] type [DEFAULT default] {dcheck}
+  create_domain : {n : ObjectName} {as_said : Bool} {t : SqlType} {value : Option Default} {checks : List DomainCheck} {ws a b c d e f rest : List Word} → Token k.Create ws a
+      → Token k.Domain a b → IsObjectName n b c → Marked k.As as_said c d → IsType 64 t d e → Optional k.Default IsDefault value e f → Repeated IsDomainCheck checks f rest
+      → IsStatement (statements.CreateDomain (record { domain = n; sort = t; default = value; checks = checks })) ws rest
+  -- CREATE ASSERTION obj CHECK '(' expr ')'
+  create_assertion : {n : ObjectName} {x : Expr} {ws a b c rest : List Word} → Token k.Create ws a → Token k.Assertion a b → IsObjectName n b c → IsCheck false 64 x c rest
+      → IsStatement (statements.CreateAssertion (record { assertion = n; condition = x })) ws rest
+  -- CREATE FUNCTION obj '(' [param,..] ')' RETURNS type [LANGUAGE SQL] RETURN expr
+  create_function : {n : ObjectName} {ps : List Param} {t : SqlType} {x : Expr} {ws a b c d e f g h rest : List Word} → Token k.Create ws a → Token k.Function a b → IsObjectName n b c
+      → IsParams ps c d → Token k.Returns d e → IsType 64 t e f → IsLanguage f g → Token k.Return g h → IsExprWithin false 65 x h rest
+      → IsStatement (statements.CreateFunction (record { function = n; params = ps; returns = t; body = bodies.Return Definer x })) ws rest
+  -- CREATE PROCEDURE obj '(' [param,..] ')' [LANGUAGE SQL] BEGIN ATOMIC act ';' {act ';'} END
+  create_procedure : {n : ObjectName} {ps : List Param} {xs : List Act} {ws a b c d e f g h rest : List Word} → Token k.Create ws a → Token k.Procedure a b → IsObjectName n b c → IsParams ps c d
+      → IsLanguage d e → Token k.Begin e f → Token k.Atomic f g → IsActs xs g h → Token k.End h rest
+      → IsStatement (statements.CreateProcedure (record { procedure = n; params = ps; body = bodies.Atomic Definer xs })) ws rest
   -- ALTER TABLE obj action
   alter_table : {table : ObjectName} {action : AlterTableAction} {ws a b c rest : List Word} → Token k.Alter ws a → Token k.Table a b → IsObjectName table b c → IsAlterTableAction action c rest
       → IsStatement (statements.AlterTable (record { table = table; action = action })) ws rest

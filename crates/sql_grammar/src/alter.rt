@@ -5,7 +5,7 @@ ghost use Rattle.sql_grammar.specs.AlterParsers as spec;
 ghost use Rattle.sql_phrases.specs.Parsers.{Reads};
 
 use crate::rights::behaviour;
-use crate::table::{MOST_OPEN, column_definition, table_constraint};
+use sql_definitions::{MOST_OPEN, column_definition, domain_check, table_constraint};
 use sql_phrases::{GrammarError, Reader, default, identifier, sees_name};
 use sql_tree::{AlterDomainAction, AlterTableAction, Default, Name};
 use sql_words::Kind;
@@ -70,7 +70,7 @@ fn add_other(alloc: Global, words: &mut Reader<'_>) -> Result<AlterTableAction, 
         let column = column_definition(alloc, words, MOST_OPEN)?;
         return Ok(AlterTableAction::AddColumn(column));
     }
-    Ok(AlterTableAction::AddConstraint(table_constraint(alloc, words)?))
+    Ok(AlterTableAction::AddConstraint(table_constraint(alloc, words, MOST_OPEN)?))
 }
 
 // What stands after ALTER TABLE, a table and ADD.
@@ -125,6 +125,17 @@ fn drop_domain_part(
     Ok(AlterDomainAction::DropConstraint(identifier(alloc, words)?))
 }
 
+#[tactic(auto, unfolding(crate::specs::AlterParsers::add_or_drop))]
+fn add_or_drop(alloc: Global, words: &mut Reader<'_>) -> Result<AlterDomainAction, GrammarError>
+    ensures { Reads (spec.add_or_drop words.old) result words.new }
+{
+    if words.eat(Kind::Add) {
+        return Ok(AlterDomainAction::AddCheck(domain_check(alloc, words)?));
+    }
+    words.expect(Kind::Drop)?;
+    Ok(drop_domain_part(alloc, words)?)
+}
+
 /// What stands after ALTER DOMAIN and a domain.
 #[tactic(auto, unfolding(crate::specs::AlterParsers::alter_domain_action))]
 pub fn alter_domain_action(
@@ -136,6 +147,5 @@ pub fn alter_domain_action(
     if words.eat(Kind::Set) {
         return Ok(AlterDomainAction::SetDefault(new_default(alloc, words)?));
     }
-    words.expect(Kind::Drop)?;
-    Ok(drop_domain_part(alloc, words)?)
+    Ok(add_or_drop(alloc, words)?)
 }

@@ -2,11 +2,11 @@
 #![tactic(auto)]
 
 mod alter;
+mod creation;
 mod information;
 mod profile;
 mod rights;
 mod statements;
-mod table;
 
 pub use sql_phrases::GrammarError;
 pub use statements::{statement, unambiguous};

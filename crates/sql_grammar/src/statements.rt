@@ -12,16 +12,18 @@ ghost use Rattle.sql_grammar.specs.StatementParsers as spec;
 ghost use Rattle.sql_grammar.specs.StatementRules as grammar;
 
 use crate::alter::{alter_domain_action, alter_table_action};
+use crate::creation::{
+    create_assertion, create_domain, create_function, create_procedure, create_table, create_view,
+};
 use crate::information::info_query;
 use crate::profile::begins_other;
 use crate::rights::{
     behaviour, granted_by, grantees, grantor_after, names_then, option_for, privileges_on,
     with_option,
 };
-use crate::table::{MOST_OPEN, table_elements};
 use sql_phrases::{GrammarError, Reader, identifier, identifiers, literal_name, object_name};
 use sql_tree::{
-    AlterDomain, AlterTable, Connect, CreateRole, CreateSchema, CreateTable, DropKind, DropObject,
+    AlterDomain, AlterTable, Connect, CreateRole, CreateSchema, DropKind, DropObject,
     GrantPrivileges, GrantRoles, Grantor, Items, Name, RevokePrivileges, RevokeRoles, RoleChoice,
     SchemaNameClause, Statement,
 };
@@ -146,15 +148,6 @@ fn create_role(alloc: Global, words: &mut Reader<'_>) -> Result<Statement, Gramm
     Ok(Statement::CreateRole(CreateRole { role, admin }))
 }
 
-#[tactic(auto, unfolding(crate::specs::StatementParsers::create_table))]
-fn create_table(alloc: Global, words: &mut Reader<'_>) -> Result<Statement, GrammarError>
-    ensures { Reads (spec.create_table words.old) result words.new }
-{
-    let table = object_name(alloc, words)?;
-    let elements = table_elements(alloc, words, MOST_OPEN - 1)?;
-    Ok(Statement::CreateTable(CreateTable { table, elements }))
-}
-
 #[tactic(auto, unfolding(crate::specs::StatementParsers::create))]
 fn create(alloc: Global, words: &mut Reader<'_>) -> Result<Statement, GrammarError>
     ensures { Reads (spec.create words.old) result words.new }
@@ -171,6 +164,26 @@ fn create(alloc: Global, words: &mut Reader<'_>) -> Result<Statement, GrammarErr
         Kind::Table => {
             words.take();
             Ok(create_table(alloc, words)?)
+        }
+        Kind::View => {
+            words.take();
+            Ok(create_view(alloc, words)?)
+        }
+        Kind::Domain => {
+            words.take();
+            Ok(create_domain(alloc, words)?)
+        }
+        Kind::Assertion => {
+            words.take();
+            Ok(create_assertion(alloc, words)?)
+        }
+        Kind::Function => {
+            words.take();
+            Ok(create_function(alloc, words)?)
+        }
+        Kind::Procedure => {
+            words.take();
+            Ok(create_procedure(alloc, words)?)
         }
         _ => Err(GrammarError::Syntax),
     }

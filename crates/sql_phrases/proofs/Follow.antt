@@ -23,22 +23,6 @@ follows k.Where = 6
 follows k.Period = 11
 follows _ = 0
 
--- The same in the elements of a table, where ON goes on with a REFERENCES.
-abbrev pub continues : Kind → ℕ
-continues k.Comma = 9
-continues k.Default = 10
-continues k.Not = 10
-continues k.Constraint = 10
-continues k.Primary = 10
-continues k.Unique = 10
-continues k.References = 10
-continues k.On = 12
-continues k.Match = 13
-continues k.LeftParen = 14
-continues k.Varying = 14
-continues k.Period = 15
-continues _ = 0
-
 -- nothing that goes on so tightly comes next
 pub record Below (f : Kind → ℕ) (b : ℕ) (ws : List Word) : Type 0 where
   pub below : f (peek ws) < b

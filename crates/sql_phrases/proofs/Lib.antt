@@ -6,3 +6,4 @@ pub mod Turns
 pub mod NameProofs
 pub mod TypeProofs
 pub mod TypeLengths
+pub mod Marks

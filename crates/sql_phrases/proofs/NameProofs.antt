@@ -1,17 +1,16 @@
 -- Names: what is read is spelled so, and what is spelled so is read.
-use Rattle.std.proofs.Common.{◌≡◌, ℕ, ◌<◌, ◌≤◌, Bool, true, false, List, [], ◌∷◌, length, Some, None, refl, ap, arith, lit<, lit≤}
+use Rattle.std.proofs.Common.{◌≡◌, ℕ, ◌<◌, ◌≤◌, true, false, List, [], ◌∷◌, length, Some, refl, arith, lit<}
 use Rattle.sql_tree.specs.declared.column.ObjectName.{ObjectName}
-use Rattle.sql_words.specs.Kinds.{kind_of, text_of, is_name, same_kind}
+use Rattle.sql_words.specs.Kinds.{text_of, is_name, same_kind}
 use Rattle.sql_words.specs.declared.word.Word.{Word}
 use Rattle.sql_words.specs.declared.kind.Kind.{Kind}
 use Rattle.sql_words.specs.declared.kind.Kind.TheVariants as k
 use Rattle.sql_phrases.specs.Reading.{peek, next, spelling, sees, after}
-use Rattle.sql_phrases.specs.Shapes.{Spelled, Token, Spells, Separated}
 use Rattle.sql_phrases.specs.NameRules.{IsIdentifier, identifier, IsLiteralName, literal_name, IsObjectName, unqualified, qualified, IsIdentifiers, IsColumns, no_columns, columns}
 use Rattle.sql_phrases.specs.NameParsers as parse
 use Rattle.sql_phrases.specs.NameParsers.{fits_name, sees_name}
-use Rattle.sql_phrases.proofs.Follow.{follows, Below, sees_differs}
-use Rattle.sql_phrases.proofs.Lists.{Gives, gives_none, gives_some, gives_then, gives_if, after_not, spells_seen, gives_eat, gives_expect, expect_at, sees_at, after_at, next_spelled, spelling_at, sees_spelled, below_token, shorter_token, shorter_spelled, Parses, separated_parses, separated_begins}
+use Rattle.sql_phrases.proofs.Follow.{follows, sees_differs}
+use Rattle.sql_phrases.proofs.Lists.{Gives, gives_none, gives_some, gives_then, gives_if, after_not, spells_seen, gives_eat, gives_expect, expect_at, sees_at, after_at, next_spelled, spelling_at, sees_spelled, below_token, shorter_token, Parses, separated_parses, separated_begins}
 use Rattle.sql_phrases.proofs.NameTexts.{is_name_fits, fits_is_name}
 
 -- ---- name

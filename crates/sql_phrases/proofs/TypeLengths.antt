@@ -1,9 +1,11 @@
--- Data types and defaults have at least one word, and a type doesn't begin with a name.
-use Rattle.std.proofs.Common.{◌≡◌, ℕ, ◌<◌, ◌≤◌, false, List, length, refl, arith}
+-- Data types and defaults have at least one word, and a type begins with one of its words.
+use Rattle.std.proofs.Common.{◌≡◌, ℕ, ◌<◌, ◌≤◌, Bool, true, false, List, length, refl, ap, arith}
 use Rattle.sql_tree.specs.declared.sort.Default.{Default}
 use Rattle.sql_tree.specs.declared.sort.Special.{Special}
 use Rattle.sql_tree.specs.declared.sort.SqlType.{SqlType}
 use Rattle.sql_words.specs.Kinds.{is_name, same_kind}
+use Rattle.sql_words.specs.declared.kind.Kind.{Kind}
+use Rattle.sql_words.specs.declared.kind.Kind.TheVariants as k
 use Rattle.sql_words.specs.declared.word.Word.{Word}
 use Rattle.sql_phrases.specs.Reading.{peek}
 use Rattle.sql_phrases.specs.Shapes.{absent, present}
@@ -28,6 +30,42 @@ default_shorter (types.special s) = special_shorter s
 
 pub number_shorter : {low high n : ℕ} {ws rest : List Word} → IsNumber low high n ws rest → length rest < length ws
 number_shorter (types.number s d lo hi) = shorter_spelled s
+
+-- the words with which a type begins
+abbrev pub begins_type : Kind → Bool
+begins_type k.Character = true
+begins_type k.Char = true
+begins_type k.Varchar = true
+begins_type k.Numeric = true
+begins_type k.Decimal = true
+begins_type k.Dec = true
+begins_type k.Smallint = true
+begins_type k.Integer = true
+begins_type k.Int = true
+begins_type k.Bigint = true
+begins_type k.Boolean = true
+begins_type k.Date = true
+begins_type k.Time = true
+begins_type k.Timestamp = true
+begins_type _ = false
+
+no_name : (kind : Kind) → begins_type kind ≡ true → is_name kind ≡ false
+unfolding is_name same_kind
+no_name k.Character e = refl
+no_name k.Char e = refl
+no_name k.Varchar e = refl
+no_name k.Numeric e = refl
+no_name k.Decimal e = refl
+no_name k.Dec e = refl
+no_name k.Smallint e = refl
+no_name k.Integer e = refl
+no_name k.Int e = refl
+no_name k.Bigint e = refl
+no_name k.Boolean e = refl
+no_name k.Date e = refl
+no_name k.Time e = refl
+no_name k.Timestamp e = refl
+no_name _ e = cc
 
 module _ (m : ℕ) where
   pub bracketed_shorter : {low high n : ℕ} {ws rest : List Word} → IsBracketed m low high n ws rest → length rest < length ws
@@ -60,21 +98,23 @@ module _ (m : ℕ) where
   type_shorter (types.time t n) = omega (arith, shorter_token t, size_shorter n)
   type_shorter (types.timestamp t n) = omega (arith, shorter_token t, size_shorter n)
 
+  pub type_begins : {t : SqlType} {ws rest : List Word} → IsType m t ws rest → begins_type (peek ws) ≡ true
+  type_begins (types.character (types.character_word t) n) = ap begins_type (peek_at t)
+  type_begins (types.character (types.char_word t) n) = ap begins_type (peek_at t)
+  type_begins (types.varchar t b) = ap begins_type (peek_at t)
+  type_begins (types.varying (types.character_word t) v b) = ap begins_type (peek_at t)
+  type_begins (types.varying (types.char_word t) v b) = ap begins_type (peek_at t)
+  type_begins (types.numeric t p) = ap begins_type (peek_at t)
+  type_begins (types.decimal (types.decimal_word t) p) = ap begins_type (peek_at t)
+  type_begins (types.decimal (types.dec_word t) p) = ap begins_type (peek_at t)
+  type_begins (types.smallint t) = ap begins_type (peek_at t)
+  type_begins (types.integer t) = ap begins_type (peek_at t)
+  type_begins (types.int t) = ap begins_type (peek_at t)
+  type_begins (types.bigint t) = ap begins_type (peek_at t)
+  type_begins (types.boolean t) = ap begins_type (peek_at t)
+  type_begins (types.date t) = ap begins_type (peek_at t)
+  type_begins (types.time t n) = ap begins_type (peek_at t)
+  type_begins (types.timestamp t n) = ap begins_type (peek_at t)
+
   pub type_reserved : {t : SqlType} {ws rest : List Word} → IsType m t ws rest → is_name (peek ws) ≡ false
-  unfolding is_name same_kind
-  type_reserved (types.character (types.character_word t) n) = rw (peek_at t) refl
-  type_reserved (types.character (types.char_word t) n) = rw (peek_at t) refl
-  type_reserved (types.varchar t b) = rw (peek_at t) refl
-  type_reserved (types.varying (types.character_word t) v b) = rw (peek_at t) refl
-  type_reserved (types.varying (types.char_word t) v b) = rw (peek_at t) refl
-  type_reserved (types.numeric t p) = rw (peek_at t) refl
-  type_reserved (types.decimal (types.decimal_word t) p) = rw (peek_at t) refl
-  type_reserved (types.decimal (types.dec_word t) p) = rw (peek_at t) refl
-  type_reserved (types.smallint t) = rw (peek_at t) refl
-  type_reserved (types.integer t) = rw (peek_at t) refl
-  type_reserved (types.int t) = rw (peek_at t) refl
-  type_reserved (types.bigint t) = rw (peek_at t) refl
-  type_reserved (types.boolean t) = rw (peek_at t) refl
-  type_reserved (types.date t) = rw (peek_at t) refl
-  type_reserved (types.time t n) = rw (peek_at t) refl
-  type_reserved (types.timestamp t n) = rw (peek_at t) refl
+  type_reserved {ws = ws} t = no_name (peek ws) (type_begins t)

@@ -1,25 +1,23 @@
 -- Data types and defaults: what is read is spelled so, and what is spelled so is read.
-use Rattle.std.proofs.Common.{◌≡◌, ℕ, ◌<◌, ◌≤◌, ◌||◌, Bool, true, false, List, [], ◌∷◌, length, Option, Some, None, refl, sym, ap, ◌∙◌, subst, arith, lit<, lit≤}
-use Rattle.std.specs.Prelude.{◌==◌, if◌then◌else◌}
+use Rattle.std.proofs.Common.{◌≡◌, ℕ, ◌<◌, true, false, List, Option, Some, None, refl, sym, ap, ◌∙◌, subst, arith, lit≤}
+use Rattle.std.specs.Prelude.{◌==◌}
 use Rattle.std.proofs.lemmas.Bool.{ne_eqb, eqb-false}
 use Rattle.sql_tree.specs.declared.sort.Default.{Default}
-use Rattle.sql_tree.specs.declared.sort.Default.TheVariants as defaults
 use Rattle.sql_tree.specs.declared.sort.Special.{Special}
 use Rattle.sql_tree.specs.declared.sort.Special.TheVariants as specials
 use Rattle.sql_tree.specs.declared.sort.SqlType.{SqlType}
 use Rattle.sql_words.specs.declared.word.Word.{Word}
 use Rattle.sql_words.specs.declared.kind.Kind.{Kind}
 use Rattle.sql_words.specs.declared.kind.Kind.TheVariants as k
-use Rattle.sql_phrases.specs.Reading.{peek, next, spelling, sees, after}
-use Rattle.sql_phrases.specs.Shapes.{Spelled, Token, Spells, Marked, absent, present}
-use Rattle.sql_phrases.specs.TypeRules.{number_from, IsNumber, number, IsCharacterWord, character_word, char_word, IsDecimalWord, decimal_word, dec_word, IsBracketed, bracketed, IsSize, size_unsaid, size, IsPrecision, precision_unsaid, precision, with_scale, IsType, character, varchar, varying, numeric, decimal, smallint, integer, int, bigint, boolean, date, time, timestamp, IsSpecial, current_user, current_date, current_time, current_timestamp, IsDefault, literal, true_word, false_word, null, special}
-use Rattle.sql_phrases.specs.TypeRules as rules
-use Rattle.sql_phrases.specs.Parsers.{opening, text, expect}
+use Rattle.sql_phrases.specs.Reading.{peek, next, spelling, sees}
+use Rattle.sql_phrases.specs.Shapes.{Token, absent, present}
+use Rattle.sql_phrases.specs.TypeRules.{IsNumber, number, IsCharacterWord, character_word, char_word, decimal_word, dec_word, IsBracketed, bracketed, IsSize, size_unsaid, size, IsPrecision, precision_unsaid, precision, with_scale, IsType, character, varchar, varying, numeric, decimal, smallint, integer, int, bigint, boolean, date, time, timestamp, IsSpecial, current_user, current_date, current_time, current_timestamp, IsDefault, literal, true_word, false_word, null, special}
+use Rattle.sql_phrases.specs.Parsers.{opening}
 use Rattle.sql_phrases.specs.TypeParsers as parse
 use Rattle.sql_phrases.specs.TypeParsers.{number_within}
 use Rattle.sql_phrases.proofs.Follow.{follows, Below, passes, sees_other}
-use Rattle.sql_phrases.proofs.Lists.{Gives, gives_none, gives_some, gives_then, gives_if, gives_weaker, after_not, spells_seen, token_next, gives_eat, gives_expect, gives_text, expect_at, text_at, sees_at, after_at, next_at, peek_at, peek_spelled, next_spelled, spelling_at, sees_spelled, shorter_token, shorter_spelled}
-use Rattle.sql_phrases.proofs.Numbers.{within, Within, found_within}
+use Rattle.sql_phrases.proofs.Lists.{Gives, gives_none, gives_some, gives_then, gives_if, gives_weaker, after_not, spells_seen, token_next, gives_eat, gives_expect, gives_text, expect_at, text_at, sees_at, after_at, next_at, peek_at, peek_spelled, next_spelled, spelling_at, sees_spelled}
+use Rattle.sql_phrases.proofs.Numbers.{within, found_within}
 
 pub opening_at : (n : ℕ) {ws a : List Word} → 0 < n → Token k.LeftParen ws a → opening n ws ≡ Some (tt, a)
 unfolding opening

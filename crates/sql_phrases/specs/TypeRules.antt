@@ -1,5 +1,5 @@
 -- Data types, defaults and parameters.
-use Rattle.std.specs.Prelude.{◌≡◌, ◌<◌, ◌≤◌, ℕ, Bool, true, false, ◌+◌, ◌*◌, ◌-◌, List, [], ◌∷◌}
+use Rattle.std.specs.Prelude.{◌≡◌, ◌<◌, ◌≤◌, ℕ, Bool, true, ◌+◌, ◌*◌, ◌-◌, List, [], ◌∷◌}
 use Rattle.std.specs.Char.{is_ascii_digit}
 use Rattle.std.specs.List.{list_all}
 use Rattle.sql_tree.specs.declared.sort.Default.{Default}
@@ -10,7 +10,7 @@ use Rattle.sql_tree.specs.declared.sort.SqlType.{SqlType}
 use Rattle.sql_tree.specs.declared.sort.SqlType.TheVariants as types
 use Rattle.sql_words.specs.declared.kind.Kind.TheVariants as k
 use Rattle.sql_words.specs.declared.word.Word.{Word}
-use Rattle.sql_phrases.specs.Shapes.{Spelled, Token, Spells, Marked}
+use Rattle.sql_phrases.specs.Shapes.{Token, Spells, Marked}
 
 -- the number that these digits write, after a number that stands before them
 abbrev pub number_from : ℕ → List ℕ → ℕ

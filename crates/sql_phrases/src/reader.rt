@@ -79,6 +79,17 @@ impl<'a> Reader<'a> {
         }
     }
 
+    /// The kind of the second word after the next.
+    pub fn peek_third(&self) -> Kind
+        ensures { result ≡ spec.peek (spec.next (spec.next self.now)) }
+    {
+        match self.left {
+            [] => Kind::EndOfText,
+            [_] => Kind::EndOfText,
+            [_, _, rest @ ..] => first_kind(rest),
+        }
+    }
+
     #[tactic(auto, unfolding(crate::specs::Reading::sees))]
     pub fn sees(&self, kind: Kind) -> bool
         ensures { result ≡ spec.sees kind self.now }

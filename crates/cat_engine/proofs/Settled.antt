@@ -1,0 +1,147 @@
+-- A state, a session and a text settle the reply and the next state.
+use Rattle.std.proofs.Common.{◌≡◌, ℕ, List, [], ◌∷◌, Some, length, sym, ◌∙◌, ap, subst, inl, inr}
+use Rattle.sql_tree.specs.declared.statement.SchemaNameClause.{SchemaNameClause}
+use Rattle.sql_tree.specs.declared.statement.Statement.{Statement}
+use Rattle.sql_tree.specs.declared.statement.Statement.TheVariants.{Connect, SetConnection, Disconnect, SetSchema, CreateSchema}
+use Rattle.sql_grammar.specs.StatementRules.{Grammar}
+use Rattle.sql_grammar.proofs.StatementProofs.{only}
+use Rattle.cat_items.specs.declared.edit.Edit.{Edit}
+use Rattle.cat_items.specs.declared.edit.Refusal.{Refusal}
+use Rattle.cat_items.specs.declared.edit.Refusal.TheVariants.{BadToken, CatalogFull}
+use Rattle.cat_items.specs.declared.edit.Who.{Who}
+use Rattle.cat_items.specs.declared.item.Item.{Item}
+use Rattle.cat_items.specs.declared.limits.Limits.{Limits}
+use Rattle.cat_items.specs.Edits.{IsNew}
+use Rattle.cat_engine.specs.Contents.{Content, State}
+use Rattle.cat_engine.specs.CreatedSchemas.{create_schema_refusals, create_schema_edit}
+use Rattle.cat_engine.specs.Effects.{Changes, Edits, success}
+use Rattle.cat_engine.specs.First.{First}
+use Rattle.cat_engine.specs.Histories.{IsAfter, IsReplyAt}
+use Rattle.cat_engine.specs.LimitRefusals.{too_many_items}
+use Rattle.cat_engine.specs.Refusals.{for_current, for_statement, statement_refusals, text_refusals}
+use Rattle.cat_engine.specs.Steps.{Answers, Step}
+use Rattle.cat_engine.specs.WordRefusals.{Reads, bad_token}
+use Rattle.cat_engine.specs.declared.journal.Entry.{Entry}
+use Rattle.cat_engine.specs.declared.reply.Reply.{Reply}
+use Rattle.cat_engine.specs.declared.reply.Reply.TheVariants.{Refused}
+use Rattle.cat_engine.specs.declared.session.Session.{Session}
+use Rattle.cat_engine.proofs.FirstLaws.{IsSettled, AreSettled, first_settled}
+use Rattle.cat_engine.proofs.NewCatalogues.{new_settled}
+
+-- a text is at most one statement
+pub reads_settled : (text : List ℕ) (a b : Statement) → Reads text a → Reads text b → a ≡ b
+reads_settled text a b p q =
+    let same : p.words ≡ q.words = cc in
+    only p.words a b p.grammar (subst (λ ws. Grammar ws b) (sym same) q.grammar)
+
+bad_token_settled : (text : List ℕ) → IsSettled (bad_token text)
+bad_token_settled text a b p q =
+    let same : p.0 ≡ q.0 = cc in
+    p.2 ∙ ap BadToken same ∙ sym q.2
+
+for_current_settled : (sessions : List (ℕ × Session)) (number : ℕ) (test : Who → Refusal → Type 0) → ((who : Who) → IsSettled (test who)) → IsSettled (for_current sessions number test)
+for_current_settled sessions number test settled a b p q =
+    let same : p.0 ≡ q.0 = let e : Some p.0 ≡ Some q.0 = sym p.1 ∙ q.1 in cc in
+    settled p.0 a b p.2 (subst (λ w. test w b) (sym same) q.2)
+
+too_many_settled : (limits : Limits) (c : List Item) (edit : Edit) → IsSettled (too_many_items limits c edit)
+too_many_settled limits c edit a b p q =
+    let same : p.0 ≡ q.0 = new_settled c edit p.0 q.0 p.1 q.1 in
+    p.3 ∙ ap (λ (l : List Item). CatalogFull (length l)) same ∙ sym q.3
+
+create_schema_settled : (c : List Item) (who : Who) (clause : SchemaNameClause) → IsSettled (First (create_schema_refusals c who clause))
+create_schema_settled c who clause = first_settled (create_schema_refusals c who clause)
+    ((λ a b p q. p.1 ∙ sym q.1), ((λ a b p q. p.1 ∙ sym q.1), ((λ a b p q. p.2 ∙ sym q.2), ((λ a b p q. p.1 ∙ sym q.1), tt))))
+
+statement_settled : (limits : Limits) (number : ℕ) (old : Content) (s : Statement) → AreSettled (statement_refusals limits number old s)
+statement_settled limits number old (Connect c) = ((λ a b p q. p.1 ∙ sym q.1), ((λ a b p q. p.1 ∙ sym q.1), tt))
+statement_settled limits number old (SetConnection name) = ((λ a b p q. p.1 ∙ sym q.1), tt)
+statement_settled limits number old (Disconnect name) = ((λ a b p q. p.1 ∙ sym q.1), tt)
+statement_settled limits number old (SetSchema name) = ((λ a b p q. p.1 ∙ sym q.1), tt)
+statement_settled limits number old (CreateSchema s) = (
+  (λ a b p q. p.1 ∙ sym q.1),
+  (
+    for_current_settled old.sessions number (λ who. First (create_schema_refusals old.catalogue who s.schema)) (λ who. create_schema_settled old.catalogue who s.schema),
+    (
+      for_current_settled old.sessions number (λ who. too_many_items limits old.catalogue (create_schema_edit who s.schema)) (λ who. too_many_settled limits old.catalogue (create_schema_edit who s.schema)),
+      tt,
+    ),
+  ),
+)
+statement_settled limits number old s = tt
+
+for_statement_settled : (text : List ℕ) (test : Statement → Refusal → Type 0) → ((s : Statement) → IsSettled (test s)) → IsSettled (for_statement text test)
+for_statement_settled text test settled a b p q =
+    let same : p.0 ≡ q.0 = reads_settled text p.0 q.0 p.1 q.1 in
+    settled p.0 a b p.2 (subst (λ s. test s b) (sym same) q.2)
+
+pub refusal_settled : (limits : Limits) (number : ℕ) (old : Content) (text : List ℕ) → IsSettled (First (text_refusals limits number old text))
+refusal_settled limits number old text = first_settled (text_refusals limits number old text) (
+  bad_token_settled text,
+  (
+    (λ a b p q. p.3 ∙ sym q.3),
+    (
+      (λ a b p q. p.1 ∙ sym q.1),
+      (for_statement_settled text (λ s. First (statement_refusals limits number old s)) (λ s. first_settled (statement_refusals limits number old s) (statement_settled limits number old s)), tt),
+    ),
+  ),
+)
+
+same_content : (a b : Content) → a.catalogue ≡ b.catalogue → a.sessions ≡ b.sessions → a ≡ b
+same_content a b p q i = record { catalogue = p i; sessions = q i }
+
+edits_settled : (number : ℕ) (edit : Who → Edit) (old a b : Content) → Edits number edit old a → Edits number edit old b → a ≡ b
+edits_settled number edit old a b p q =
+    let same : p.0 ≡ q.0 = let e : Some p.0 ≡ Some q.0 = sym p.1 ∙ q.1 in cc in
+    same_content a b (new_settled old.catalogue (edit p.0) a.catalogue b.catalogue p.2 (subst (λ w. IsNew old.catalogue (edit w) b.catalogue) (sym same) q.2)) (p.3 ∙ sym q.3)
+
+changes_settled : (s : Statement) (number : ℕ) (old a b : Content) → Changes s number old a → Changes s number old b → a ≡ b
+changes_settled (Connect c) number old a b p q = p ∙ sym q
+changes_settled (SetConnection name) number old a b p q = p ∙ sym q
+changes_settled (Disconnect name) number old a b p q = p ∙ sym q
+changes_settled (SetSchema name) number old a b p q = p ∙ sym q
+changes_settled (CreateSchema s) number old a b p q = edits_settled number (λ who. create_schema_edit who s.schema) old a b p q
+changes_settled s number old a b p q = absurd p
+
+answer_settled : (limits : Limits) (number : ℕ) (old : Content) (text : List ℕ) (r s : Reply) (a b : Content) → Answers limits number old text r a → Answers limits number old text s b → (r ≡ s) × (a ≡ b)
+answer_settled limits number old text r s a b p q =
+    elim p [
+      | inl x ↦ elim q [
+        | inl y ↦ let same : x.refusal ≡ y.refusal = refusal_settled limits number old text x.refusal y.refusal x.first y.first in (x.told ∙ ap Refused same ∙ sym y.told, x.same ∙ sym y.same)
+        | inr y ↦ absurd (y.passes x.refusal x.first)
+      ]
+      | inr x ↦ elim q [
+        | inl y ↦ absurd (x.passes y.refusal y.first)
+        | inr y ↦
+            let same : x.statement ≡ y.statement = reads_settled text x.statement y.statement x.reads y.reads in
+            (x.told ∙ ap success same ∙ sym y.told, changes_settled x.statement number old a b x.changes (subst (λ t. Changes t number old b) (sym same) y.changes))
+      ]
+    ]
+
+same_state : (a b : State) → a.content ≡ b.content → a.journal ≡ b.journal → a.limits ≡ b.limits → a ≡ b
+same_state a b p q r i = record { content = p i; journal = q i; limits = r i }
+
+pub step_settled : (old : State) (number : ℕ) (text : List ℕ) (r s : Reply) (a b : State) → Step old number text r a → Step old number text s b → (r ≡ s) × (a ≡ b)
+step_settled old number text r s a b p q =
+    elim p [
+      | inl x ↦ elim q [ inl y ↦ (x.told ∙ sym y.told, x.same ∙ sym y.same) | inr y ↦ absurd (y.room x.full) ]
+      | inr x ↦ elim q [
+        | inl y ↦ absurd (x.room y.full)
+        | inr y ↦
+            let same = answer_settled old.limits number old.content text r s a.content b.content x.answers y.answers in
+            (same.0, same_state a b same.1 (x.journal ∙ sym y.journal) (x.limits ∙ sym y.limits))
+      ]
+    ]
+
+pub after_settled : (start : State) (history : List Entry) (a b : State) → IsAfter start history a → IsAfter start history b → a ≡ b
+after_settled start [] a b p q = p ∙ sym q
+after_settled start (e ∷ es) a b p q =
+    let same : p.1 ≡ q.1 = (step_settled start e.session e.text p.0 q.0 p.1 q.1 p.2 q.2).1 in
+    after_settled p.1 es a b p.3 (subst (λ m. IsAfter m es b) (sym same) q.3)
+
+pub reply_settled : (start : State) (history : List Entry) (k : ℕ) (r s : Reply) → IsReplyAt start history k r → IsReplyAt start history k s → r ≡ s
+reply_settled start history k r s p q =
+    let entry : p.entry ≡ q.entry = let e : Some p.entry ≡ Some q.entry = sym p.at ∙ q.at in cc in
+    let before : p.before ≡ q.before = after_settled start _ p.before q.before p.earlier q.earlier in
+    (step_settled p.before p.entry.session p.entry.text r s p.after q.after p.step
+    (subst (λ (m : State). Step m p.entry.session p.entry.text s q.after) (sym before) (subst (λ (e : Entry). Step q.before e.session e.text s q.after) (sym entry) q.step))).0

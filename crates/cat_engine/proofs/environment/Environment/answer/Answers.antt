@@ -1,0 +1,10 @@
+use Rattle.cat_engine.proofs.Answering.{answer_refused, answer_done}
+use Rattle.cat_engine.proofs.environment.Environment.answer.Goals as goal
+
+pub returns-in-Ok-execute-clause-ok : goal.returns-in-Ok-execute-clause-ok
+returns-in-Ok-execute-clause-ok c = answer_done _ _ _ _ _ c.in-Ok.statement c.in-Ok.ensures.0 c.in-Ok.ensures.1 c.in-Ok-execute.ensures.0 c.in-Ok-execute.ensures.1
+
+pub returns-in-Err-Refused-execute-clause-ok : goal.returns-in-Err-Refused-execute-clause-ok
+returns-in-Err-Refused-execute-clause-ok c =
+    let told = rw c.in-Err-Refused-execute.field-0-is at c.in-Err-Refused-execute.ensures in
+    answer_refused _ _ _ _ _ c.in-Ok.statement c.in-Err-Refused-execute.refusal c.in-Ok.ensures.0 c.in-Ok.ensures.1 told.0 told.1

@@ -1,0 +1,10 @@
+use Rattle.std.proofs.Common.{◌↔◌, IsTrue, subst}
+use Rattle.std.specs.List.{Contains}
+use Rattle.cat_items.specs.declared.item.Item.TheVariants.{User}
+use Rattle.cat_items.proofs.KeyLemmas.{user_from_key}
+use Rattle.cat_engine.proofs.Owners.{key_test}
+use Rattle.cat_engine.proofs.environment.is_user.Goals as goal
+
+pub returns : goal.returns
+returns c = subst (λ n. IsTrue c.is_some.result ↔ Contains c.args.catalogue.now.items (User n)) c.in_ok-copy.ensures
+    (key_test c.args.catalogue.now.items (User c.in_ok-copy.field-0) (λ y e. user_from_key y c.in_ok-copy.field-0 e) c.find.result c.is_some.result c.is_some.ensures c.find.ensures.found c.find.ensures.none)

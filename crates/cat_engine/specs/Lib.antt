@@ -1,0 +1,15 @@
+pub mod Built
+pub mod ConnectionRefusals
+pub mod Contents
+pub mod CreatedSchemas
+pub mod Effects
+pub mod First
+pub mod Histories
+pub mod LimitRefusals
+pub mod NameRefusals
+pub mod OwnerRefusals
+pub mod Refusals
+pub mod Runs
+pub mod Sessions
+pub mod Steps
+pub mod WordRefusals

@@ -1,0 +1,134 @@
+//! The book.
+
+ghost use Rattle.std.specs.Prelude.{◌≡◌, ◌≢◌, ◌≤◌, length, IfOk, OnErr};
+ghost use Rattle.std.specs.List.{AllPairs, All};
+ghost use Rattle.std.specs.Option.{option_copied};
+ghost use Rattle.cat_items.specs.Good.{IsGood};
+ghost use Rattle.cat_items.specs.Shape.{IsAuthorizationName};
+ghost use Rattle.cat_engine.specs.Histories.{IsOpening, IsReached};
+ghost use Rattle.cat_engine.specs.Sessions.{who_of};
+ghost use Rattle.cat_engine.specs.Contents.{IsFull};
+ghost use Rattle.cat_engine.specs.Steps.{IsEntered, StepOrNone};
+
+use crate::environment::Environment;
+use crate::journal::{Entry, enter};
+use crate::reply::Reply;
+use cat_items::{Catalogue, Limits, Who};
+use sql_tree::{Name, Text};
+use std::alloc::{AllocError, Global};
+use std::marker::Model;
+
+/// What a journal holds of each entry beside its text, in bytes.
+const ENTRY_BYTES: u64 = 64;
+
+/// One SQL catalogue, the connections of its sessions, and the journal of the statements that made them.
+///
+/// Contracts see the catalogue's items, the sessions, the journal and the limits.
+#[derive(Drop)]
+pub struct Book {
+    alloc: Global,
+    environment: Environment,
+    journal: Vec<Entry>,
+    held: u64,
+    limits: Limits,
+}
+
+impl Model for Book {
+    ghost use Rattle.cat_engine.specs.Contents.{State};
+
+    ghost Value = { State };
+
+    ghost use Rattle.sql_tree.specs.contracts.expr.Expr as expr;
+    ghost use Rattle.sql_tree.specs.contracts.expr.Query as query;
+    ghost use Rattle.std.specs.Coded.{codes};
+
+    ghost coded = { Prim.hlevel (codes, expr.the_row.coded, query.the_row.coded) };
+
+    ghost use Rattle.std.specs.Prelude.{◌≡◌};
+    ghost use Rattle.cat_engine.specs.Contents.{bytes_held};
+    ghost use Rattle.cat_engine.specs.Histories.{IsReached};
+
+    ghost view = { λ b. record { content = b.environment; journal = b.journal.items; limits = b.limits } };
+
+    ghost invariant = { λ b. (b.held ≡ bytes_held b.journal.items)
+        × IsReached (record { content = b.environment; journal = b.journal.items; limits = b.limits }) };
+}
+
+impl Book {
+    /// The book of these users, without connections and with an empty journal. `Err` is want of memory.
+    ///
+    /// `limits` bound the catalogue's items and the journal's bytes.
+    pub fn new(alloc: Global, users: &Vec<Name>, limits: Limits) -> Result<Book, AllocError>
+        requires distinct { AllPairs (λ a b. a ≢ b) users.now.items }
+        requires allowed { All IsAuthorizationName users.now.items }
+        ensures { IfOk result (λ book. IsOpening users.now.items limits book) }
+    {
+        Ok(Book {
+            alloc,
+            environment: Environment::new(alloc, users)?,
+            journal: Vec::new(alloc),
+            held: 0,
+            limits,
+        })
+    }
+
+    /// The catalogue. It takes no memory.
+    pub fn catalogue(&self) -> &Catalogue
+        ensures items { result.now.items ≡ self.now.content.catalogue }
+        ensures good { IsGood self.now.content.catalogue }
+        ensures reached { IsReached self.now }
+    {
+        self.environment.catalogue()
+    }
+
+    /// The statements that were answered, the oldest first. It takes no memory.
+    pub fn journal(&self) -> &[Entry]
+        ensures { result.now ≡ self.now.journal }
+    {
+        self.journal.as_slice()
+    }
+
+    /// For whom a session's statements are run; `None` where it has no current connection. It takes no memory.
+    pub fn who(&self, session: u32) -> Option<&Who>
+        ensures { option_copied result ≡ who_of self.now.content.sessions session }
+    {
+        self.environment.who(session)
+    }
+
+    /// Answers one statement of a session, given without its semicolon.
+    ///
+    /// A text that is answered gets an entry in the journal, a refused one too. `JournalFull` and `OutOfMemory` leave all as it was.
+    pub fn apply(&mut self, session: u32, text: &[u8]) -> Reply
+        requires { length text.now ≤ 65535 }
+        ensures { StepOrNone self.old session text.now result self.new }
+    {
+        let size = ENTRY_BYTES + text.len() as u64;
+        if self.limits.journal - self.held < size {
+            return Reply::JournalFull { held: self.held };
+        }
+        match self.answer(session, text) {
+            Ok(reply) => reply,
+            Err(_) => Reply::OutOfMemory,
+        }
+    }
+
+    // Answers a text for which the journal has room. All memory is taken before the first change.
+    fn answer(&mut self, session: u32, text: &[u8]) -> Result<Reply, AllocError>
+        requires few { length text.now ≤ 65535 }
+        requires room { ¬ (IsFull self.old text.now) }
+        ensures ok { IfOk result (λ reply. IsEntered self.old session text.now reply self.new) }
+        ensures err { OnErr result (self.new ≡ self.old) }
+    {
+        let entry = Entry {
+            session,
+            text: Text::of(self.alloc, text)?,
+        };
+        self.journal.reserve(1)?;
+        let reply = self
+            .environment
+            .answer(self.alloc, &self.limits, session, text)?;
+        self.held += ENTRY_BYTES + text.len() as u64;
+        enter(&mut self.journal, entry);
+        Ok(reply)
+    }
+}

@@ -1,0 +1,59 @@
+//! From a text to its statement.
+
+ghost use Rattle.std.specs.Prelude.{◌≡◌, ◌∷◌, [], ◌↔◌, IsTrue, Ok};
+ghost use Rattle.cat_engine.specs.Built.{IsBuilt};
+ghost use Rattle.cat_engine.specs.First.{Tested};
+ghost use Rattle.sql_words.specs.Words as spec;
+ghost use Rattle.cat_engine.specs.WordRefusals.{Reads, bad_token, not_in_profile, syntax_error};
+
+use cat_items::{EditError, Refusal};
+use sql_grammar::{GrammarError, statement};
+use sql_tree::Statement;
+use sql_words::{Word, WordsError, words};
+use std::alloc::Global;
+
+// Whether statements of this kind are built.
+fn is_built(statement: &Statement) -> bool
+    ensures { IsTrue result ↔ IsBuilt statement.now }
+{
+    match statement {
+        Statement::Connect(_)
+        | Statement::SetConnection(_)
+        | Statement::Disconnect(_)
+        | Statement::SetSchema(_) => true,
+        Statement::CreateSchema(schema) => schema.elements.is_empty(),
+        _ => false,
+    }
+}
+
+// The words of a text.
+fn words_of(alloc: Global, text: &[u8]) -> Result<Vec<Word>, EditError>
+    ensures { Tested (bad_token text.now ∷ []) (λ words. spec.words_of text.now ≡ Ok words.items) (Unit {0}) result }
+{
+    match words(alloc, text) {
+        Ok(words) => Ok(words),
+        Err(WordsError::BadToken { offset }) => {
+            Err(EditError::Refused(Refusal::BadToken { offset }))
+        }
+        Err(WordsError::Memory) => Err(EditError::Memory),
+    }
+}
+
+/// The statement that a text is, where its kind is built.
+pub fn read(alloc: Global, text: &[u8]) -> Result<Statement, EditError>
+    ensures { Tested (bad_token text.now ∷ not_in_profile text.now ∷ syntax_error text.now ∷ []) (Reads text.now) (Unit {0}) result }
+{
+    let words = words_of(alloc, text)?;
+    let found = match statement(alloc, &words) {
+        Ok(found) => found,
+        Err(GrammarError::NotInProfile) => {
+            return Err(EditError::Refused(Refusal::NotInProfile));
+        }
+        Err(GrammarError::Syntax) => return Err(EditError::Refused(Refusal::Syntax)),
+        Err(GrammarError::Memory) => return Err(EditError::Memory),
+    };
+    if !is_built(&found) {
+        return Err(EditError::Refused(Refusal::Syntax));
+    }
+    Ok(found)
+}

@@ -1,0 +1,5 @@
+pub mod Filing
+pub mod Graphs
+pub mod Shelves
+pub mod Spans
+pub mod Undo

@@ -1,0 +1,5 @@
+pub mod Continuing
+pub mod ConditionProofs
+pub mod TableProofs
+pub mod BodyProofs
+pub mod RoutineProofs

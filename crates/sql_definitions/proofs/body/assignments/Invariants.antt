@@ -1,0 +1,8 @@
+use Rattle.std.proofs.Common.{◌≡◌, ◌-◌}
+use Rattle.sql_words.specs.declared.kind.Kind.TheVariants as k
+use Rattle.sql_phrases.specs.Parsers.{separated, separated_from}
+use Rattle.sql_definitions.specs.BodyParsers.{assignment}
+use Rattle.sql_definitions.proofs.body.assignments.Given as goal
+
+abbrev pub invariant-loop-turn : goal.invariant-loop-turn
+invariant-loop-turn l = separated k.Comma assignment l.fn.words ≡ separated_from k.Comma assignment (l._turn-end - l._turn) l.found l.words

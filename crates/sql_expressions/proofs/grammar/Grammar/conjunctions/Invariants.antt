@@ -1,0 +1,8 @@
+use Rattle.std.proofs.Common.{◌≡◌, ◌-◌}
+use Rattle.sql_words.specs.declared.kind.Kind.TheVariants as k
+use Rattle.sql_phrases.specs.Parsers.{separated, separated_from}
+use Rattle.sql_expressions.specs.ExpressionParsers.{expr_within, conjunction}
+use Rattle.sql_expressions.proofs.grammar.Grammar.conjunctions.Given as goal
+
+abbrev pub invariant-loop-turn : goal.invariant-loop-turn
+invariant-loop-turn g l = separated k.Or (conjunction l.self.value (expr_within l.self.value l.self.depth) l.self.depth) l.fn.words ≡ separated_from k.Or (conjunction l.self.value (expr_within l.self.value l.self.depth) l.self.depth) (l._turn-end - l._turn) l.found l.words

@@ -1,0 +1,4 @@
+pub mod Monotone
+pub mod Decisions
+pub mod Goodness
+pub mod Settled
