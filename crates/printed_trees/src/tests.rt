@@ -261,18 +261,16 @@ fn parentheses_65(rt: HostRuntime) -> Result<(), Fail> {
 fn trees_of(alloc: Global, script: &[u8]) -> Result<usize, Fail> {
     let mut splitter = Splitter::new(alloc)?;
     let mut rest = script;
-    let mut count = 0;
-    for _ in 0..script.len() {
+    for count in 0..script.len() {
         match splitter.feed(rest) {
             Fed::Statement { used } => {
                 read(alloc, splitter.statement())?;
-                count += 1;
                 rest = &rest[used..];
             }
             _ => return Ok(count),
         }
     }
-    Ok(count)
+    Ok(script.len())
 }
 
 #[test]
