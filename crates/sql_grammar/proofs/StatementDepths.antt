@@ -1,6 +1,7 @@
 -- The brackets of statements are counted: as many may be open as are open at one word.
 use Rattle.std.proofs.Common.{◌≡◌, ◌<◌, ◌≤◌, ◌-◌, ◌+◌, ℕ, suc, Bool, List, [], Option, refl, ap, ◌∙◌, arith}
 use Rattle.std.proofs.lemmas.List.{append-nil}
+use Rattle.sql_tree.specs.declared.column.ObjectName.{ObjectName}
 use Rattle.sql_tree.specs.declared.rights.Grantee.{Grantee}
 use Rattle.sql_tree.specs.declared.rights.Grantor.{Grantor}
 use Rattle.sql_tree.specs.declared.rights.Privilege.{Privilege}
@@ -23,7 +24,7 @@ use Rattle.sql_words.specs.declared.kind.Kind.TheVariants as k
 use Rattle.sql_words.specs.declared.word.Word.{Word}
 use Rattle.sql_phrases.specs.Shapes.{Token, Separated, Optional}
 use Rattle.sql_phrases.specs.NameRules as names
-use Rattle.sql_phrases.specs.NameRules.{IsIdentifier, IsLiteralName}
+use Rattle.sql_phrases.specs.NameRules.{IsIdentifier, IsLiteralName, IsObjectName}
 use Rattle.sql_phrases.specs.TypeRules.{IsDefault}
 use Rattle.sql_expressions.specs.Depth.{open_after, most_open}
 use Rattle.sql_expressions.proofs.Depths.{Peak, peak_none, flat_then, peak_token, peak_spelled, peak_marked, peak_identifier, peak_identifiers, peak_separated, peak_optional, Deep, flat, deep_then, deep_map, deep_more, deep_begin, deep_token, deep_separated, deep_repeated}
@@ -182,6 +183,10 @@ module _ {m d : ℕ} (le : m ≤ d) (lt : 0 < d) where
 
 -- ---- statements
 
+deep_head : {d : ℕ} {x y : Kind} {o : ObjectName} {ws a b rest : List Word} → Token x ws a → Token y a b → IsObjectName o b rest → ((n : ℕ) → open_after x n ≡ n) → ((n : ℕ) → open_after y n ≡ n)
+    → Deep d ws rest (λ _. IsObjectName o b rest)
+deep_head t u o keeps keeps' = flat (flat_then (two t u keeps keeps') (peak_object_name o)) (λ _. o)
+
 module _ {m d : ℕ} (le : m ≤ d) (lt : 1 < d) where
   some : 0 < d
   some = omega (arith, lt)
@@ -202,10 +207,10 @@ module _ {m d : ℕ} (le : m ≤ d) (lt : 1 < d) where
       let inside : m - 1 ≤ d - 1 = omega (arith, le) in
       let more : 0 < d - 1 = omega (arith, lt) in
       deep_map (λ n p. rules.create_table t u o p.1)
-      (deep_then (flat (flat_then (two t u (λ n. refl) (λ n. refl)) (peak_object_name o)) (λ _. o)) (deep_more (omega (arith, lt)) (deep_table_elements inside more es)))
+      (deep_then (deep_head t u o (λ n. refl) (λ n. refl)) (deep_more (omega (arith, lt)) (deep_table_elements inside more es)))
   deep_statement {rest = rest} (rules.create_view {q = q} {e = e} t u o cs v i) =
       deep_map (λ n p. rules.create_view t u o p.1.0 v p.1.1.1)
-      (deep_then (flat (flat_then (two t u (λ n. refl) (λ n. refl)) (peak_object_name o)) (λ _. o)) (deep_then (deep_columns some cs) (deep_then (deep_token v (λ n. refl))
+      (deep_then (deep_head t u o (λ n. refl) (λ n. refl)) (deep_then (deep_columns some cs) (deep_then (deep_token v (λ n. refl))
       (deep_whole_query _ (suc m) (omega (arith, le)) q e rest i))))
   deep_statement (rules.create_domain t u o a ty v s) =
       deep_map (λ n p. rules.create_domain t u o a p.1.0 v p.1.1.1)
@@ -213,21 +218,21 @@ module _ {m d : ℕ} (le : m ≤ d) (lt : 1 < d) where
       (deep_then (flat (peak_default_clause v) (λ _. v)) (deep_repeated (IsDomainCheck m) (λ n. IsDomainCheck n) (deep_domain_check le some) s))))
   deep_statement {rest = rest} (rules.create_assertion {x = x} {c = c} t u o i) =
       deep_map (λ n p. rules.create_assertion t u o p.1)
-      (deep_then (flat (flat_then (two t u (λ n. refl) (λ n. refl)) (peak_object_name o)) (λ _. o)) (deep_check le some _ x c rest i))
+      (deep_then (deep_head t u o (λ n. refl) (λ n. refl)) (deep_check le some _ x c rest i))
   deep_statement {rest = rest} (rules.create_function {x = x} {h = h} t u o ps r ty l v i) =
       deep_map (λ n p. rules.create_function t u o p.1.0 r p.1.1.1.0 l v p.1.1.1.1.1)
-      (deep_then (flat (flat_then (two t u (λ n. refl) (λ n. refl)) (peak_object_name o)) (λ _. o)) (deep_then (deep_params le some ps) (deep_then (deep_token r (λ n. refl))
+      (deep_then (deep_head t u o (λ n. refl) (λ n. refl)) (deep_then (deep_params le some ps) (deep_then (deep_token r (λ n. refl))
       (deep_then (deep_more le (deep_type ty)) (deep_then (flat (flat_then (peak_language l) (peak_token v (λ n. refl))) (λ _. v)) (deep_expr _ (suc m) (omega (arith, le)) x h rest i))))))
   deep_statement (rules.create_procedure {xs = xs} {f = f} {g = g} {h = h} t u o ps l b v s e) =
       let inside : m ≤ suc (d - 1) = omega (arith, le, lt) in
       let more : 0 < d - 1 = omega (arith, lt) in
       deep_map (λ n p. rules.create_procedure t u o p.1.0 l b v p.1.1.1.1.1 e)
-      (deep_then (flat (flat_then (two t u (λ n. refl) (λ n. refl)) (peak_object_name o)) (λ _. o)) (deep_then (deep_params le some ps) (deep_then (flat (peak_language l) (λ _. l))
+      (deep_then (deep_head t u o (λ n. refl) (λ n. refl)) (deep_then (deep_params le some ps) (deep_then (flat (peak_language l) (λ _. l))
       (deep_begin (λ n. Token k.Atomic f g × IsActs n xs g h) some b (deep_then (deep_token v (λ n. refl)) (deep_acts inside more s)) e))))
   deep_statement (rules.alter_table t u o x) =
-      deep_map (λ n p. rules.alter_table t u o p.1) (deep_then (flat (flat_then (two t u (λ n. refl) (λ n. refl)) (peak_object_name o)) (λ _. o)) (deep_alter_table_action le some x))
+      deep_map (λ n p. rules.alter_table t u o p.1) (deep_then (deep_head t u o (λ n. refl) (λ n. refl)) (deep_alter_table_action le some x))
   deep_statement (rules.alter_domain t u o x) =
-      deep_map (λ n p. rules.alter_domain t u o p.1) (deep_then (flat (flat_then (two t u (λ n. refl) (λ n. refl)) (peak_object_name o)) (λ _. o)) (deep_alter_domain_action le some x))
+      deep_map (λ n p. rules.alter_domain t u o p.1) (deep_then (deep_head t u o (λ n. refl) (λ n. refl)) (deep_alter_domain_action le some x))
   deep_statement (rules.drop_schema t u i b) = flat (flat_then (two t u (λ n. refl) (λ n. refl)) (flat_then (peak_identifier i) (peak_behaviour b))) (λ _. rules.drop_schema t u i b)
   deep_statement (rules.drop_object t x o b) =
       flat (flat_then (peak_token t (λ n. refl)) (flat_then (peak_drop_kind x) (flat_then (peak_object_name o) (peak_behaviour b)))) (λ _. rules.drop_object t x o b)
