@@ -1,5 +1,5 @@
 -- A part of the order is a range of each list in order.
-use Rattle.std.proofs.Common.{◌≡◌, ◌≢◌, ◌↔◌, ◌<◌, ◌≤◌, ℕ, Bool, true, false, List, length, get_or, refl, sym, ◌∙◌, ap, subst, inl, inr, arith, nat_eq, nat_le, [], Some, None}
+use Rattle.std.proofs.Common.{◌≡◌, ◌≢◌, ◌↔◌, ◌<◌, ◌≤◌, ℕ, Bool, true, false, List, length, get_or, refl, sym, ◌∙◌, ap, subst, inl, inr, arith, nat_eq, nat_le, cond, eq-eqb, [], Option, Some, None, unwrap_or}
 use Rattle.std.specs.List.Sorted.{IsNonDecreasingBy, IsPartitionedBy, IsPartitionPoint}
 use Rattle.std.specs.Ordering.{nat_cmp, ordering_index, ordering_then, ordering_reverse, is_lt, is_le}
 use Rattle.std.specs.Option.{option_cmp}
@@ -9,7 +9,7 @@ use Rattle.std.specs.FinMap.{IsAntisymmetric, nat_cmp-IsAntisymmetric, slice_cmp
 use Rattle.std.specs.declared.cmp.Ordering.{Ordering}
 use Rattle.std.specs.declared.cmp.Ordering.TheVariants.{Less, Equal, Greater}
 use Rattle.std.specs.Cmp.{nat_cmp_is, ranked}
-use Rattle.std.proofs.lemmas.Bool.{false≢true, cases_lt, cases_eq}
+use Rattle.std.proofs.lemmas.Bool.{false≢true, cases_lt, cases_eq, ne_eqb}
 use Rattle.std.proofs.lemmas.Cmp.{tied_itself}
 use Rattle.std.proofs.lemmas.List.Sorted.{IsPartitionedBy-leb}
 use Rattle.sql_tree.specs.Names.{name_cmp-IsAntisymmetric}
@@ -18,11 +18,13 @@ use Rattle.sql_tree.specs.declared.rights.Action.TheVariants as action
 use Rattle.sql_tree.specs.contracts.object.ObjectOrd.TheImpl.Laws as object_laws
 use Rattle.cat_items.specs.declared.item.Item.{Item}
 use Rattle.cat_items.specs.declared.item.Item.TheVariants as item
+use Rattle.cat_items.specs.declared.ranges.ObjectKind.{ObjectKind}
+use Rattle.cat_items.specs.declared.ranges.ObjectKind.TheVariants as object
 use Rattle.cat_items.specs.declared.ranges.Part.{Part}
-use Rattle.cat_items.specs.declared.ranges.Part.TheVariants.{RoleAuthorizations, RoleGrants, AdminOptions, Columns, Held, Grantable}
+use Rattle.cat_items.specs.declared.ranges.Part.TheVariants.{Objects, RoleAuthorizations, RoleGrants, AdminOptions, Columns, Held, Grantable}
 use Rattle.cat_items.specs.Order.{name_cmp, object_cmp, need_cmp, action_number, kind_of, key_cmp, item_cmp}
 use Rattle.cat_items.specs.Catalogues.{IsInOrder}
-use Rattle.cat_items.specs.Ranges.{IsRange, IsIn, kind_in, place_in}
+use Rattle.cat_items.specs.Ranges.{IsRange, IsIn, IsObjectIn, kind_in, number_of, object_place, place_in, schema_in}
 use Rattle.cat_items.proofs.OrderLemmas.{need_cmp-total}
 
 -- orders that tell apart what differs
@@ -86,8 +88,80 @@ same : {K : Type 0} (R : K → K → Ordering) → IsTotalOrder R → IsAntisymm
 same R total antisymmetric a b =
     (λ h. antisymmetric a b (from_tie (R a b) h), λ e. tie (R a b) (subst (λ z. R a z ≡ Equal) e (tied_itself total a)))
 
+-- objects of a kind in a schema
+
+number_bounds : (kind : ObjectKind) → (4 ≤ number_of kind) × (number_of kind ≤ 13)
+number_bounds object.Table = (omega arith, omega arith)
+number_bounds object.View = (omega arith, omega arith)
+number_bounds object.Column = (omega arith, omega arith)
+number_bounds object.Domain = (omega arith, omega arith)
+number_bounds object.DomainCheck = (omega arith, omega arith)
+number_bounds object.Key = (omega arith, omega arith)
+number_bounds object.Foreign = (omega arith, omega arith)
+number_bounds object.Check = (omega arith, omega arith)
+number_bounds object.Assertion = (omega arith, omega arith)
+number_bounds object.Routine = (omega arith, omega arith)
+
+abbrev own_schema : Item → List ℕ
+own_schema x = unwrap_or (schema_in x) []
+
+has_schema : (x : Item) → 4 ≤ kind_of x → kind_of x ≤ 13 → schema_in x ≡ Some (own_schema x)
+has_schema (item.Table t) low high = refl
+has_schema (item.View v) low high = refl
+has_schema (item.Column c) low high = refl
+has_schema (item.Domain d) low high = refl
+has_schema (item.DomainCheck d) low high = refl
+has_schema (item.Key k) low high = refl
+has_schema (item.Foreign f) low high = refl
+has_schema (item.Check x) low high = refl
+has_schema (item.Assertion a) low high = refl
+has_schema (item.Routine r) low high = refl
+has_schema x low high = absurd (omega (arith, low, high))
+
+then_then : (a b c : Ordering) → ordering_then (ordering_then a b) c ≡ ordering_then a (ordering_then b c)
+then_then Less b c = refl
+then_then Equal b c = refl
+then_then Greater b c = refl
+
+-- of two objects of one kind the order is first that of their schemas
+schema_first : (x y : Item) → kind_of x ≡ kind_of y → 4 ≤ kind_of x → kind_of x ≤ 13 → (rest : Ordering) × (key_cmp x y ≡ ordering_then (name_cmp (own_schema x) (own_schema y)) rest)
+schema_first (item.Table a) (item.Table b) e low high = (name_cmp a.name b.name, refl)
+schema_first (item.View a) (item.View b) e low high = (name_cmp a.view.name b.view.name, refl)
+schema_first (item.Column a) (item.Column b) e low high = (ordering_then (name_cmp a.table.name b.table.name) (nat_cmp a.place b.place), then_then (name_cmp a.table.schema b.table.schema) (name_cmp a.table.name b.table.name) (nat_cmp a.place b.place))
+schema_first (item.Domain a) (item.Domain b) e low high = (name_cmp a.domain.name b.domain.name, refl)
+schema_first (item.DomainCheck a) (item.DomainCheck b) e low high = (name_cmp a.name.name b.name.name, refl)
+schema_first (item.Key a) (item.Key b) e low high = (name_cmp a.name.name b.name.name, refl)
+schema_first (item.Foreign a) (item.Foreign b) e low high = (name_cmp a.name.name b.name.name, refl)
+schema_first (item.Check a) (item.Check b) e low high = (name_cmp a.name.name b.name.name, refl)
+schema_first (item.Assertion a) (item.Assertion b) e low high = (name_cmp a.name.name b.name.name, refl)
+schema_first (item.Routine a) (item.Routine b) e low high = (name_cmp a.routine.name b.routine.name, refl)
+schema_first x y e low high = absurd (omega (arith, e, low, high))
+
+here_place : (n : ℕ) (schema : List ℕ) (k : ℕ) (found : Option (List ℕ)) (own : List ℕ) → k ≡ n → found ≡ Some own → object_place n schema k found ≡ name_cmp own schema
+here_place n schema k found own e is =
+    subst (λ z. object_place n schema k z ≡ name_cmp own schema) (sym is) (ap (λ b. cond b (name_cmp own schema) (nat_cmp k n)) (eq-eqb k n e))
+
+there_place : (n : ℕ) (schema : List ℕ) (k : ℕ) (found : Option (List ℕ)) → k ≢ n → object_place n schema k found ≡ nat_cmp k n
+there_place n schema k None other = refl
+there_place n schema k (Some own) other = ap (λ b. cond b (name_cmp own schema) (nat_cmp k n)) (ne_eqb k n other)
+
+object_tie : (kind : ObjectKind) (schema : List ℕ) (x : Item) → IsTie (object_place (number_of kind) schema (kind_of x) (schema_in x)) ↔ IsObjectIn kind schema x
+object_tie kind schema x = (
+  λ h. elim (cases_eq (kind_of x) (number_of kind)) [
+    | inl e ↦
+        let is : schema_in x ≡ Some (own_schema x) = named e in
+        (e, is ∙ ap Some ((same name_cmp nat_list_cmp_total name_cmp-IsAntisymmetric (own_schema x) schema).0 (subst IsTie (here_place (number_of kind) schema (kind_of x) (schema_in x) (own_schema x) e is) h)))
+    | inr other ↦ absurd (other (nat_cmp-IsAntisymmetric (kind_of x) (number_of kind) (from_tie (nat_cmp (kind_of x) (number_of kind)) (subst IsTie (there_place (number_of kind) schema (kind_of x) (schema_in x) other) h))))
+  ],
+  λ h. subst IsTie (sym (here_place (number_of kind) schema (kind_of x) (schema_in x) schema h.0 h.1)) ((same name_cmp nat_list_cmp_total name_cmp-IsAntisymmetric schema schema).1 refl),
+)
+  where
+    named : kind_of x ≡ number_of kind → schema_in x ≡ Some (own_schema x)
+    named e = let b = number_bounds kind in has_schema x (omega (arith, e, b.0)) (omega (arith, e, b.1))
+
 is_in : (part : Part) (x : Item) → IsTie (place_in part x) ↔ IsIn part x
 unfolding IsTie
+is_in (Objects kind schema) x = object_tie kind schema.now x
 is_in RoleAuthorizations (item.RoleAuth g) = (λ h. tt, λ h. tt)
 is_in RoleAuthorizations x = (λ h. absurd h, λ h. absurd h)
 is_in (RoleGrants role) (item.RoleAuth g) = same name_cmp nat_list_cmp_total name_cmp-IsAntisymmetric g.role role.now
@@ -131,6 +205,7 @@ first_part R total a b q rest less = by_order (R a b) refl less
 
 -- items of another kind than the part's go by their kinds
 by_kind : (part : Part) (x : Item) → kind_of x ≢ kind_in part → place_in part x ≡ nat_cmp (kind_of x) (kind_in part)
+by_kind (Objects kind schema) x other = there_place (number_of kind) schema.now (kind_of x) (schema_in x) other
 by_kind RoleAuthorizations x other = refl
 by_kind (RoleGrants role) (item.RoleAuth g) other = absurd (other refl)
 by_kind (RoleGrants role) x other = refl
@@ -149,6 +224,13 @@ unlike m n off on e = absurd (false≢true (sym off ∙ ap (λ k. nat_eq k n) e 
 -- items of the part's kind
 within_kind : (part : Part) (x y : Item) → kind_of x ≡ kind_in part → kind_of y ≡ kind_in part → key_cmp x y ≡ Less → Rises (place_in part x) (place_in part y)
 unfolding Rises
+within_kind (Objects kind schema) x y ex ey less =
+    let n : ℕ = number_of kind in
+    let b = number_bounds kind in
+    let first = schema_first x y (ex ∙ sym ey) (omega (arith, ex, b.0)) (omega (arith, ex, b.1)) in
+    let at_x = here_place n schema.now (kind_of x) (schema_in x) (own_schema x) ex (has_schema x (omega (arith, ex, b.0)) (omega (arith, ex, b.1))) in
+    let at_y = here_place n schema.now (kind_of y) (schema_in y) (own_schema y) ey (has_schema y (omega (arith, ey, b.0)) (omega (arith, ey, b.1))) in
+    rw (at_x, at_y) (first_part name_cmp nat_list_cmp_total (own_schema x) (own_schema y) schema.now first.0 (sym first.1 ∙ less))
 within_kind RoleAuthorizations x y ex ey less = rw (ex, ey) (omega arith)
 within_kind (RoleGrants role) (item.RoleAuth g) (item.RoleAuth h) ex ey less = first_part name_cmp nat_list_cmp_total g.role h.role role.now _ less
 within_kind (RoleGrants role) (item.RoleAuth g) y ex ey less = unlike _ 14 refl refl ey

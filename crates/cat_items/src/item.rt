@@ -167,8 +167,9 @@ pub struct Right {
 /// A descriptor of a catalogue. Items are ordered, compared and hashed by their kind, in the order of these
 /// variants, and then by their key fields, which come first in each kind. An item has 16 bytes.
 ///
-/// So these stand together in a catalogue: the objects of one kind in a schema, the columns of a table in the
-/// order of their places ([`columns_of`](crate::columns_of)), all role authorizations
+/// So these stand together in a catalogue: the objects of one kind in a schema
+/// ([`objects_of`](crate::objects_of)), the columns of a table in the order of their places
+/// ([`columns_of`](crate::columns_of)), all role authorizations
 /// ([`role_authorizations`](crate::role_authorizations)), those of a role and its admin options
 /// ([`role_grants_of`](crate::role_grants_of), [`admin_options_of`](crate::admin_options_of)), and the rights of
 /// an action on an object, first those on the whole object and then those on each column, so those of one need

@@ -29,7 +29,8 @@ pub use limits::Limits;
 pub use marks::Marks;
 pub use need::{Auth, Need};
 pub use ranges::{
-    admin_options_of, columns_of, grantable_of, held_of, role_authorizations, role_grants_of,
+    ObjectKind, admin_options_of, columns_of, grantable_of, held_of, objects_of,
+    role_authorizations, role_grants_of,
 };
 pub use row::{Cell, Row};
 pub use sameness::same_item;

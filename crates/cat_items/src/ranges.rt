@@ -2,7 +2,8 @@
 
 ghost use Rattle.std.specs.Prelude.{◌≡◌};
 ghost use Rattle.cat_items.specs.Order.{kind_of};
-ghost use Rattle.cat_items.specs.Ranges.{IsRange, IsIn, IsRoleAuthorization, IsGrantOf, IsAdminOptionOf, IsHeldOf, IsGrantableOf, kind_in, place_in};
+ghost use Rattle.cat_items.specs.Ranges.{IsRange, IsIn, IsRoleAuthorization, IsGrantOf, IsAdminOptionOf, IsHeldOf, IsGrantableOf, IsObjectIn, kind_in, number_of, object_place, place_in, schema_in};
+ghost use Rattle.std.specs.Option.{option_copied};
 ghost use Rattle.cat_items.specs.Shape.{IsColumnOf};
 
 use crate::catalogue::Catalogue;
@@ -12,9 +13,25 @@ use sql_tree::{Name, Object};
 use std::cmp::Ordering;
 use std::ops::Range;
 
+/// The kinds of objects of a schema, constraints and columns among them.
+#[derive(Clone, Copy, Debug, PartialEq, Eq)]
+pub enum ObjectKind {
+    Table,
+    View,
+    Column,
+    Domain,
+    DomainCheck,
+    Key,
+    Foreign,
+    Check,
+    Assertion,
+    Routine,
+}
+
 /// A part of the order of descriptors.
 #[derive(Clone, Copy)]
 enum Part<'a> {
+    Objects(ObjectKind, &'a Name),
     RoleAuthorizations,
     RoleGrants(&'a Name),
     AdminOptions(&'a Name),
@@ -48,11 +65,49 @@ fn kind(x: &Item) -> u8
     }
 }
 
+/// The number of a kind of objects.
+fn object_kind(kind: ObjectKind) -> u8
+    ensures { result ≡ number_of kind }
+{
+    match kind {
+        ObjectKind::Table => 4,
+        ObjectKind::View => 5,
+        ObjectKind::Column => 6,
+        ObjectKind::Domain => 7,
+        ObjectKind::DomainCheck => 8,
+        ObjectKind::Key => 9,
+        ObjectKind::Foreign => 10,
+        ObjectKind::Check => 11,
+        ObjectKind::Assertion => 12,
+        ObjectKind::Routine => 13,
+    }
+}
+
+/// The schema that an object is in.
+fn schema_of(x: &Item) -> Option<&Name>
+    ensures { option_copied result ≡ schema_in x.now }
+{
+    match x {
+        Item::Table(table) => Some(&table.get().schema),
+        Item::View(view) => Some(&view.get().view.schema),
+        Item::Column(column) => Some(&column.get().table.schema),
+        Item::Domain(domain) => Some(&domain.get().domain.schema),
+        Item::DomainCheck(check) => Some(&check.get().name.schema),
+        Item::Key(key) => Some(&key.get().name.schema),
+        Item::Foreign(key) => Some(&key.get().name.schema),
+        Item::Check(check) => Some(&check.get().name.schema),
+        Item::Assertion(assertion) => Some(&assertion.get().name.schema),
+        Item::Routine(routine) => Some(&routine.get().routine.schema),
+        _ => None,
+    }
+}
+
 /// The kind of the items of a part.
 fn kind_of_part(part: Part<'_>) -> u8
     ensures { result ≡ kind_in part.entry }
 {
     match part {
+        Part::Objects(kind, _) => object_kind(kind),
         Part::RoleAuthorizations | Part::RoleGrants(_) => 14,
         Part::AdminOptions(_) => 15,
         Part::Columns(_) => 6,
@@ -61,11 +116,22 @@ fn kind_of_part(part: Part<'_>) -> u8
     }
 }
 
+/// Whether an item comes before the objects of a kind in a schema, is one of them, or comes behind them.
+fn place_of_object(number: u8, schema: &Name, x: &Item) -> Ordering
+    ensures { result ≡ object_place number schema.now (kind_of x.now) (schema_in x.now) }
+{
+    match schema_of(x) {
+        Some(own) if kind(x) == number => own.cmp(schema),
+        _ => kind(x).cmp(&number),
+    }
+}
+
 /// Whether an item comes before a part, is in it, or comes behind it.
 fn place(part: Part<'_>, x: &Item) -> Ordering
     ensures { result ≡ place_in part.entry x.now }
 {
     match (part, x) {
+        (Part::Objects(kind, schema), _) => place_of_object(object_kind(kind), schema, x),
         (Part::RoleGrants(role), Item::RoleAuth(grant)) => grant.get().role.cmp(role),
         (Part::AdminOptions(role), Item::RoleAdmin(grant)) => grant.get().role.cmp(role),
         (Part::Columns(table), Item::Column(column)) => column.get().table.cmp(table),
@@ -83,6 +149,13 @@ fn range(c: &Catalogue, part: Part<'_>) -> Range<usize>
     let start = items.partition_point(|x| place(part, x).is_lt());
     let end = items.partition_point(|x| place(part, x).is_le());
     start..end
+}
+
+/// The places of the objects of one kind in a schema. It takes no memory.
+pub fn objects_of(c: &Catalogue, kind: ObjectKind, schema: &Name) -> Range<usize>
+    ensures { IsRange c.now.items result.start result.end (IsObjectIn kind schema.now) }
+{
+    range(c, Part::Objects(kind, schema))
 }
 
 /// The places of all role authorizations. It takes no memory.

@@ -1,9 +1,9 @@
 //! Texts by the rules of the catalogue, and that ample memory is enough.
 
 use crate::{
-    Auth, Catalogue, Column, Item, Limits, Marks, Need, Right, RoleGrant, Shared, admin_options_of,
-    columns_of, find, grantable_of, held_of, item_text, need_text, owner_of, role_authorizations,
-    role_grants_of, same_item,
+    Auth, Catalogue, Column, Item, Limits, Marks, Need, ObjectKind, Right, RoleGrant, Shared,
+    admin_options_of, columns_of, find, grantable_of, held_of, item_text, need_text, objects_of,
+    owner_of, role_authorizations, role_grants_of, same_item,
 };
 use sql_tree::{Action, Name, Object, Path, SqlType, Text};
 use std::alloc::{AllocError, Global};
@@ -141,5 +141,22 @@ fn ranges_of_no_items(rt: HostRuntime) -> Result<(), Fail> {
     assert_eq!(rt; held_of(&c, &need).len(), 0);
     assert_eq!(rt; grantable_of(&c, &need).len(), 0);
     assert_eq!(rt; Marks::new(alloc, &c)?.as_slice().len(), 0);
+    Ok(())
+}
+
+#[test]
+fn objects_of_a_schema(rt: HostRuntime) -> Result<(), Fail> {
+    let alloc = rt.alloc();
+    let table = Object {
+        schema: name(alloc, "S")?,
+        name: name(alloc, "T")?,
+    };
+    let mut c = Catalogue::of_sorted(Vec::new(alloc));
+    put(&mut c, Item::Table(Shared::new(alloc, table)?))?;
+    put(&mut c, Item::Role(name(alloc, "S")?))?;
+    let schema = name(alloc, "S")?;
+    assert_eq!(rt; objects_of(&c, ObjectKind::Table, &schema).start, 1);
+    assert_eq!(rt; objects_of(&c, ObjectKind::Table, &schema).len(), 1);
+    assert_eq!(rt; objects_of(&c, ObjectKind::View, &schema).len(), 0);
     Ok(())
 }

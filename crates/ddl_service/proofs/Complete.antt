@@ -2,7 +2,7 @@
 use Rattle.std.proofs.Common.{◌≡◌, ◌<◌, ◌++◌, ◌∷◌, [], inl, inr, true, false, ℕ, List, length, length-append, Option, Some, None, unwrap_or, refl, ap, ◌∙◌, arith, append_assoc, append-nil, if◌then◌else◌}
 use Rattle.sql_words.specs.Stream.{Fits, ends, rest, rest_from, is_blank}
 use Rattle.svc_io.specs.Bytes.{Gave}
-use Rattle.ddl_service.specs.Session.{State}
+use Rattle.cat_engine.specs.Contents.{State}
 use Rattle.ddl_service.specs.Script.{Script, RanOver, RanToEnd, IsWellEnded, Completes}
 use Rattle.ddl_service.specs.declared.script.Ended.{Ended}
 use Rattle.ddl_service.specs.declared.script.Ended.TheVariants.{Done, ReadFault, WriteFault, TooLong, Unfinished}

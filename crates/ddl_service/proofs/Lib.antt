@@ -1,7 +1,8 @@
 pub mod Complete
-pub mod Sorted
 pub mod Quoted
 pub mod RunLaws
+pub mod Openings
+pub mod Paths
 pub mod Pieces
 pub mod Taking
 pub mod UserLists

@@ -1,10 +1,10 @@
 -- What was run of a piece, statement by statement.
-use Rattle.std.proofs.Common.{◌≡◌, ◌<◌, ℕ, ◌+◌, ◌-◌, List, [], ◌∷◌, ◌++◌, length, take, drop, Option, Some, Ok, Err, refl, ap, sym, ◌∙◌, arith, append-nil, length-drop}
+use Rattle.std.proofs.Common.{◌≡◌, ◌<◌, ◌≤◌, true, false, if◌then◌else◌, ℕ, ◌+◌, ◌-◌, List, [], ◌∷◌, ◌++◌, length, take, drop, Option, Some, Ok, Err, refl, ap, sym, ◌∙◌, arith, append-nil, length-drop}
 use Rattle.std.proofs.lemmas.List.{take_rest, take-append-drop}
 use Rattle.std.proofs.Math.Seq.{take-add}
 use Rattle.ddl_service.specs.Printed.{reply_text}
-use Rattle.ddl_service.specs.Session.{State}
-use Rattle.sql_words.specs.Stream.{texts_from, rest_from, Fits}
+use Rattle.cat_engine.specs.Contents.{State}
+use Rattle.sql_words.specs.Stream.{ends, texts_from, rest_from, Fits}
 use Rattle.sql_words.proofs.Streams.{texts_from-append, rest_from-append, rest_from-none}
 use Rattle.sql_words.specs.Split.{Split}
 use Rattle.sql_words.specs.Splitting.{Ends, Holds, Overflows}
@@ -25,6 +25,18 @@ Ran-one a b held p text g0 g1 m0 m1 v is fits answered = record {
 -- the text that the splitter shows is the one that ended
 pub piece-text : (piece text shown : List ℕ) (used : ℕ) (middle new : Split) → Ends middle piece used new text → new.last ≡ Some shown → shown ≡ text
 piece-text piece text shown used middle new ended is = let last : new.last ≡ Some text = ap (λ (s : Split). s.last) ended.after in cc
+
+-- a text that ended had room
+text-short : (held b text : List ℕ) → texts_from held b ≡ text ∷ [] → Fits held b → length text ≤ 65535
+text-short held [] text texts fits = absurd (let none : [] ≡ text ∷ [] = texts in cc)
+text-short held (c ∷ b) text texts fits =
+    elim (ends held c) as (λ e. (if e then held ∷ texts_from [] b else texts_from (held ++ c ∷ []) b) ≡ text ∷ [] → Fits (if e then [] else held ++ c ∷ []) b → length text ≤ 65535) [
+      | true ↦ λ t f. let same : held ≡ text = cc in let long = ap length same in let room = fits.0 in omega (arith, long, room)
+      | false ↦ text-short (held ++ c ∷ []) b text
+    ] texts fits.1
+
+pub piece-short : (piece text : List ℕ) (used : ℕ) (middle new : Split) → Ends middle piece used new text → length text ≤ 65535
+piece-short piece text used middle new ended = text-short middle.held (take used piece) text ended.texts ended.fits
 
 -- the next text of a piece
 pub piece-statement : {T E : Type 0} → (a b c : State) (held piece text : List ℕ) (at used : ℕ) (middle new : Split) (g0 g1 g2 : Option (List ℕ)) (m0 m1 m2 : ℕ) (v : T)

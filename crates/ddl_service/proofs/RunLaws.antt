@@ -3,16 +3,17 @@ use Rattle.std.proofs.Common.{◌≡◌, ℕ, ◌+◌, List, [], ◌∷◌, ◌+
 use Rattle.std.proofs.lemmas.Grind.{flat_map-append}
 use Rattle.std.proofs.lemmas.List.Sums.{sum_by-append}
 use Rattle.ddl_service.specs.Printed.{output, reply_text}
-use Rattle.ddl_service.specs.Session.{State, Run, missed, is_out_of_memory}
+use Rattle.cat_engine.specs.Contents.{State}
+use Rattle.cat_engine.specs.Runs.{Run, missed, is_out_of_memory}
 use Rattle.sql_words.specs.Stream.{texts_from, rest_from, Fits}
 use Rattle.sql_words.proofs.Streams.{texts_from-append, Fits-append}
-use Rattle.ddl_service.specs.declared.reply.Reply.{Reply}
+use Rattle.cat_engine.specs.declared.reply.Reply.{Reply}
 use Rattle.svc_io.specs.Bytes.{Got}
 use Rattle.svc_io.proofs.Told.{Got-append}
 use Rattle.ddl_service.specs.Runs.{Ran, Broke}
 
-pub Run-append : (a b c : State) (ts us : List (List ℕ)) (rs ss : List Reply) → Run a ts rs b → Run b us ss c → Run a (ts ++ us) (rs ++ ss) c
-Run-append a b c [] us [] ss first second = subst (λ (x : State). Run x us ss c) first second
+pub Run-append : (a b c : State) (ts us : List (List ℕ)) (rs ss : List Reply) → Run a 0 ts rs b → Run b 0 us ss c → Run a 0 (ts ++ us) (rs ++ ss) c
+Run-append a b c [] us [] ss first second = subst (λ (x : State). Run x 0 us ss c) first second
 Run-append a b c [] us (r ∷ rs) ss first second = absurd first
 Run-append a b c (t ∷ ts) us [] ss first second = absurd first
 Run-append a b c (t ∷ ts) us (r ∷ rs) ss first second = (first.0, first.1, Run-append first.0 b c ts us rs ss first.2 second)

@@ -1,7 +1,7 @@
 -- What stands at each turn of a script's loop.
 use Rattle.std.proofs.Common.{◌≡◌, ◌≤◌, ◌<◌, inl, inr, ℕ, ◌+◌, List, [], ◌++◌, length, take, drop, Option, ap, sym, ◌∙◌, arith, append_assoc, append-nil, length-append, length-take, length-drop, take-take, ◌-◌, Bool}
 use Rattle.std.proofs.lemmas.List.{take-append-drop}
-use Rattle.ddl_service.specs.Session.{State}
+use Rattle.cat_engine.specs.Contents.{State}
 use Rattle.sql_words.specs.Stream.{rest, rest_from, is_blank}
 use Rattle.sql_words.proofs.Streams.{rest_from-append}
 use Rattle.svc_io.specs.Bytes.{Gave, IsEmpty}

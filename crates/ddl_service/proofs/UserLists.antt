@@ -1,9 +1,9 @@
 -- The users of a list, one after the other.
-use Rattle.std.proofs.Common.{◌≡◌, ◌≢◌, ◌==◌, ◌||◌, true, false, suc, lit<, ◌<◌, ◌≤◌, ◌+◌, ◌++◌, ◌∷◌, [], ℕ, List, IsTrue, All, length, take, take_all, map, Bor, get_or, ap, sym, ◌∙◌, arith, refl, Result, Ok, Err, IfOk, Option, Some, None, MatchOption, length-take, length-append}
+use Rattle.std.proofs.Common.{◌≡◌, ◌≢◌, ◌==◌, true, false, suc, lit<, ◌<◌, ◌≤◌, ◌+◌, ◌++◌, ◌∷◌, [], ℕ, List, IsTrue, All, length, take, take_all, map, Bor, get_or, ap, sym, ◌∙◌, arith, refl, Result, Ok, Err, IfOk, Option, Some, None, MatchOption, length-take, length-append}
 use Rattle.std.specs.List.{AllPairs, join_with_byte, list_all, slice_split}
 use Rattle.std.proofs.lemmas.Bool.Decides.{nat_tests}
 use Rattle.std.proofs.lemmas.List.Splits.{join_with_byte-slice_split, length-slice_split, slice_split_at, slice_split_none}
-use Rattle.std.specs.Char.{is_ascii_uppercase, is_ascii_digit}
+use Rattle.std.specs.Char.{is_ascii_uppercase}
 use Rattle.std.proofs.lemmas.List.{get_or-map, get_or-take, get_or_default, take_more}
 use Rattle.std.proofs.lemmas.List.Elements.{All-cons, All-nil, All-push}
 use Rattle.std.proofs.lemmas.List.Quantifiers.{all_pairs_push}

@@ -1,10 +1,10 @@
 -- A user's name is a name.
-use Rattle.std.proofs.Common.{◌≡◌, ◌<◌, ◌≤◌, ◌==◌, ◌&&◌, ◌||◌, Bool, true, false, ℕ, zero, suc, List, [], ◌∷◌, length, IsUtf8, refl, arith, slice_index, leb}
+use Rattle.std.proofs.Common.{◌≡◌, ◌<◌, ◌≤◌, ◌&&◌, Bool, true, false, ℕ, zero, suc, List, [], ◌∷◌, length, IsUtf8, refl, arith, slice_index, leb}
 use Rattle.std.specs.List.{list_all}
 use Rattle.std.proofs.lemmas.Bool.Decides.{nat_tests}
 use Rattle.std.proofs.lemmas.Str.{IsUtf8-from_ascii}
 use Rattle.sql_tree.specs.Names.{IsName}
-use Rattle.std.specs.Char.{is_ascii_uppercase, is_ascii_digit}
+use Rattle.std.specs.Char.{is_ascii_uppercase}
 use Rattle.ddl_service.specs.Users.{is_regular, is_regular_byte, is_user_name}
 
 pub left : (a b : Bool) → (a && b) ≡ true → a ≡ true

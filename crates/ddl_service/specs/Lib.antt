@@ -1,8 +1,6 @@
-pub mod Grammar
 pub mod Printed
 pub mod Runs
 pub mod Script
-pub mod Session
 pub mod Stops
 pub mod Top
 pub mod Users

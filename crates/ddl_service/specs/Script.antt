@@ -1,6 +1,6 @@
 -- How a script may end.
 use Rattle.std.specs.Prelude.{◌≡◌, ◌⊎◌, Bool, true, false, ℕ, ◌+◌, ◌<◌, ◌≤◌, List, [], ◌++◌, length, Option, Some}
-use Rattle.ddl_service.specs.Session.{State}
+use Rattle.cat_engine.specs.Contents.{State}
 use Rattle.sql_words.specs.Stream.{Fits, rest, is_blank}
 use Rattle.svc_io.specs.Bytes.{Gave, IsEmpty}
 use Rattle.ddl_service.specs.Runs.{Ran, Broke}

@@ -1,6 +1,8 @@
 -- How the program may end.
 use Rattle.std.specs.Prelude.{◌≡◌, ◌⊎◌, ℕ, List, Option, Some}
-use Rattle.ddl_service.specs.Session.{State, opening}
+use Rattle.cat_items.specs.declared.limits.Limits.{Limits}
+use Rattle.cat_engine.specs.Contents.{State}
+use Rattle.cat_engine.specs.Histories.{IsOpening}
 use Rattle.ddl_service.specs.Script.{IsWellEnded, Script}
 use Rattle.ddl_service.specs.Users.{Names}
 use Rattle.ddl_service.specs.declared.script.Ended.{Ended}
@@ -16,13 +18,19 @@ status_of ended.WriteFault = WriteFault
 status_of ended.TooLong = TooLong
 status_of ended.Unfinished = Unfinished
 
+-- the limits of the program
+abbrev pub standard_limits : Limits
+standard_limits = record { items = 200000; columns = 1000; journal = 268435456; stream = 1073741824 }
+
 -- the script of these users ran from the opening, under the standard limits, and the status is that of its end
 pub record RanScript (status : Status) (users : List (List ℕ)) (left_before left_after given_before given_after : Option (List ℕ)) : Type 0 where
   pub end : Ended
   pub status_is : status ≡ status_of end
+  pub before : State
+  pub opening : IsOpening users standard_limits before
   pub after : State
   pub missed : ℕ
-  pub script : Script end 1073741824 (opening users) after left_before left_after given_before given_after missed
+  pub script : Script end 1073741824 before after left_before left_after given_before given_after missed
 
 -- nothing was taken or written
 pub record Untouched (left_before left_after given_before given_after : Option (List ℕ)) : Type 0 where

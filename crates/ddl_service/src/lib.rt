@@ -1,21 +1,16 @@
 //! Sessions of the server: from the bytes that come in to the bytes that go out.
 #![tactic(auto)]
 
-mod book;
 mod command_line;
-mod item;
-mod parse;
+mod items;
+mod names;
 mod print;
 mod regular;
-mod reply;
 mod script;
 mod start;
-mod statement;
 
-pub use book::Book;
 pub use print::write_reply;
-pub use reply::{Refusal, Reply};
-pub use script::{Ended, Limits, Ran, run_script};
+pub use script::{Ended, Ran, run_script};
 pub use start::{Status, top};
 
 #[cfg(test)]

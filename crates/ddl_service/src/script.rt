@@ -1,4 +1,5 @@
-ghost use Rattle.std.specs.Prelude.{◌≡◌, ◌≤◌, ◌<◌, ◌+◌, ◌^◌, [], length, None, take, OnOk, OnErr, IfOk, IfErr};
+ghost use Rattle.std.specs.Prelude.{◌≡◌, ◌≤◌, ◌<◌, ◌+◌, ◌^◌, ◌∷◌, [], length, None, take, OnOk, OnErr, IfOk, IfErr};
+ghost use Rattle.cat_engine.specs.Runs.{missed};
 ghost use Rattle.sql_words.specs.Stream.{rest_from};
 ghost use Rattle.ddl_service.specs.Runs as runs;
 ghost use Rattle.ddl_service.specs.Runs.{Answered, Broke, Overran};
@@ -7,9 +8,9 @@ ghost use Rattle.ddl_service.specs.Stops.{Stops};
 ghost use Rattle.svc_io.specs.Bytes.{Gave, IsEmpty};
 ghost use Rattle.svc_io.specs.Faults.{HasCause, Rose};
 
-use crate::book::Book;
 use crate::print::write_reply;
-use crate::reply::Reply;
+use cat_engine::{Book, Reply};
+use cat_items::Limits;
 use sql_words::{Fed, Splitter};
 use svc_io::{Failed, Sink, Source};
 
@@ -33,20 +34,14 @@ pub struct Ran {
     pub missed: u64,
 }
 
-/// What a session may use up.
-#[derive(Clone, Copy, Debug, PartialEq, Eq)]
-pub struct Limits {
-    /// The bytes of a stream.
-    pub stream: u64,
-}
-
-impl Limits {
-    pub fn standard() -> Limits
-        ensures { result.stream ≡ 1073741824 }
-    {
-        Limits {
-            stream: 1_073_741_824,
-        }
+// How many statements a reply counts for that memory ran out for.
+fn misses(reply: &Reply) -> u64
+    ensures count { result ≡ missed (reply.now ∷ []) }
+    ensures few { result ≤ 1 }
+{
+    match reply {
+        Reply::OutOfMemory => 1,
+        Reply::Ok | Reply::Warn(_) | Reply::Refused(_) | Reply::JournalFull { .. } => 0,
     }
 }
 
@@ -57,16 +52,15 @@ fn run_text<W: Sink>(
     sink: &mut W,
     missed: &mut u64,
 ) -> Result<(), Failed>
-    requires { missed.old + 1 < 2 ^ 64 }
+    requires short { length text.now ≤ 65535 }
+    requires room { missed.old + 1 < 2 ^ 64 }
     ensures answered { Answered book.old text.now book.new (W.given sink.old) (W.given sink.new) missed.old missed.new result }
     ensures count { (missed.old ≤ missed.new) × (missed.new ≤ missed.old + 1) }
     ensures cause { HasCause (W.faults sink.old) (W.faults sink.new) result }
     ensures beside { W.beside sink.new ≡ W.beside sink.old }
 {
-    let reply = book.apply(text);
-    if matches!(reply, Reply::OutOfMemory) {
-        *missed += 1;
-    }
+    let reply = book.apply(0, text);
+    *missed += misses(&reply);
     write_reply(sink, &reply)
 }
 

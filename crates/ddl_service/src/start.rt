@@ -1,13 +1,16 @@
 ghost use Rattle.std.specs.Prelude.{◌≡◌, IfOk, OnErr, map};
 ghost use Rattle.std.specs.String.{string_bytes};
-ghost use Rattle.ddl_service.specs.Session.{State, opening};
+ghost use Rattle.cat_engine.specs.Contents.{State};
+ghost use Rattle.cat_engine.specs.Histories.{IsOpening};
 ghost use Rattle.ddl_service.specs.Script.{Completes, Script};
 ghost use Rattle.ddl_service.specs.Top as spec;
+ghost use Rattle.ddl_service.specs.Users.{AreUsers};
 ghost use Rattle.svc_io.specs.Faults.{Rose};
 
-use crate::book::Book;
 use crate::command_line::given;
-use crate::script::{Ended, Limits, Ran, run_script};
+use crate::script::{Ended, Ran, run_script};
+use cat_engine::Book;
+use cat_items::Limits;
 use sql_tree::Name;
 use sql_words::Splitter;
 use std::alloc::{AllocError, Global};
@@ -45,7 +48,8 @@ fn script<S: Source, W: Sink>(
     source: &mut S,
     sink: &mut W,
 ) -> Result<Ran, AllocError>
-    ensures ok { IfOk result (λ ran. (after : State) × Script ran.ended 1073741824 (opening users.now.items) after
+    requires { AreUsers users.now.items }
+    ensures ok { IfOk result (λ ran. (before : State) × (after : State) × IsOpening users.now.items spec.standard_limits before × Script ran.ended 1073741824 before after
         (S.left source.old) (S.left source.new) (W.given sink.old) (W.given sink.new) ran.missed) }
     ensures err { OnErr result (spec.Untouched (S.left source.old) (S.left source.new) (W.given sink.old) (W.given sink.new)) }
     ensures complete { IfOk result (λ ran. Completes ran.ended 1073741824 (S.left source.old)
@@ -53,9 +57,10 @@ fn script<S: Source, W: Sink>(
     ensures read_fault { IfOk result (λ ran. ran.ended ≡ Ended.ReadFault → Rose (S.faults source.old) (S.faults source.new)) }
     ensures write_fault { IfOk result (λ ran. ran.ended ≡ Ended.WriteFault → Rose (W.faults sink.old) (W.faults sink.new)) }
 {
-    let mut book = Book::new(alloc, users)?;
+    let limits = Limits::standard();
+    let mut book = Book::new(alloc, users, limits)?;
     let mut splitter = Splitter::new(alloc)?;
-    Ok(run_script(&mut book, &mut splitter, source, sink, &Limits::standard()))
+    Ok(run_script(&mut book, &mut splitter, source, sink, &limits))
 }
 
 /// All that the program does, from the words of the command line on.

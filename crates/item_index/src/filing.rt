@@ -93,7 +93,6 @@ pub(crate) fn refile<K: Hash, S: BuildHasher>(
         return Ok(());
     }
     let room = keys.len() + more;
-    let count = room + room / 2;
-    *files = file_all(alloc, hasher, keys, count, count)?;
+    *files = file_all(alloc, hasher, keys, room, room)?;
     Ok(())
 }

@@ -1,6 +1,6 @@
 //! An index of keys by number, with links both ways.
 
-ghost use Rattle.std.specs.Prelude.{◌≡◌, ◌+◌, ◌<◌, ◌≤◌, ◌^◌, ℕ, [], ◌∷◌, ◌++◌, List, length, max, slice_get, None, IfOk, OnOk, OnErr, vec_len, vec_capacity};
+ghost use Rattle.std.specs.Prelude.{◌≡◌, ◌+◌, ◌<◌, ◌≤◌, ◌^◌, ℕ, [], ◌∷◌, ◌++◌, List, length, max, slice_get, None, true, IfOk, IfSome, OnOk, OnErr, vec_len, vec_capacity};
 ghost use Rattle.item_index.specs.Graphs.{AreLinks, HasKey, IsNode, IsWhole, inserted, linked, links_without, next_number, no_graph, node_of, removed, with_spare};
 ghost use Rattle.item_index.specs.Shelves.{list_at};
 
@@ -20,10 +20,13 @@ const MOST_NUMBERS: usize = 1 << 32;
 /// `node` among its dependents.
 ///
 /// Contracts see the graph: the key of each number, the free numbers, the two lists of each number in order of
-/// linking, and for how many more keys and links there is room. Only `new` and `reserve` take memory. A link takes
-/// 24 bytes of what is reserved, a node at most 128 beside its key; there are fewer than 2^32 numbers, and
-/// fewer than 2,290,000,001 links. `node` hashes its key once, and a look-up of a link at a place takes the same
-/// time at each place.
+/// linking, and for how many more keys and links there is room. `AreLinks` says of one list that it has all
+/// links in the order in which they were made. Only `new` and `reserve` take memory.
+///
+/// `node` hashes its key once, and a link is found at each place of a list in the same time. A removed link is
+/// looked for at its other end from the end of the list, since what was linked last mostly goes first. There is
+/// room for 24 bytes a link, and for at most 64 a key beside the key; `reserve` makes room for a quarter more
+/// than it is asked for. There may be 2^32 numbers, and 2,290,000,000 links: for more, memory counts as wanting.
 #[derive(Drop)]
 pub struct Index<K: Eq + Hash, S: BuildHasher = BuildHasherDefault<FoldHasher>> {
     keys: Vec<Option<K>>,
@@ -163,6 +166,7 @@ impl<K: Eq + Hash + Drop, S: BuildHasher + Drop> Index<K, S> {
     /// The number whose key equals this. One look-up. No memory.
     pub fn node<L: Ledger>(&self, key: &K, steps: &mut Steps<L>) -> Option<usize>
         ensures node { result ≡ node_of K.eq self.now key.now }
+        ensures found { IfSome result (λ n. (k : K) × HasKey self.now n k × (K.eq key.now k ≡ true)) }
         ensures ticks { steps.new ≡ steps.old + 1 }
         ensures whole { IsWhole K.eq self.now }
     {

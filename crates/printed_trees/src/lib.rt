@@ -2,4 +2,6 @@
 #![tactic(auto)]
 
 #[cfg(test)]
+mod shop;
+#[cfg(test)]
 mod tests;

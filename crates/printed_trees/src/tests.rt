@@ -1,9 +1,10 @@
 //! The expected texts follow the rules of printing and were written by hand.
 
+use crate::shop::SHOP;
 use sql_grammar::{GrammarError, statement};
 use sql_text::{print_body, print_expr, print_query};
 use sql_tree::{Statement, Text};
-use sql_words::words;
+use sql_words::{Fed, Splitter, words};
 use std::alloc::{AllocError, Global};
 use std::process::Abort;
 use std::test::Fail;
@@ -253,5 +254,29 @@ fn parentheses_65(rt: HostRuntime) -> Result<(), Fail> {
     };
     let found = statement(alloc, &words);
     assert!(rt; matches!(&found, Err(GrammarError::Syntax)));
+    Ok(())
+}
+
+/// How many statements a script has, all of which have a tree.
+fn trees_of(alloc: Global, script: &[u8]) -> Result<usize, Fail> {
+    let mut splitter = Splitter::new(alloc)?;
+    let mut rest = script;
+    let mut count = 0;
+    for _ in 0..script.len() {
+        match splitter.feed(rest) {
+            Fed::Statement { used } => {
+                read(alloc, splitter.statement())?;
+                count += 1;
+                rest = &rest[used..];
+            }
+            _ => return Ok(count),
+        }
+    }
+    Ok(count)
+}
+
+#[test]
+fn each_statement_of_a_shop_has_a_tree(rt: HostRuntime) -> Result<(), Fail> {
+    assert_eq!(rt; trees_of(rt.alloc(), SHOP.as_bytes())?, 40);
     Ok(())
 }

@@ -1,6 +1,6 @@
-use Rattle.std.proofs.Common.{arith, ◌≡◌, ◌∙◌, ◌-◌, ◌≤◌, length, length-drop}
+use Rattle.std.proofs.Common.{arith, ap, ◌≡◌, ◌∙◌, ◌-◌, ◌≤◌, length, length-drop}
 use Rattle.std.proofs.lemmas.List.{take_rest}
-use Rattle.ddl_service.proofs.Pieces.{piece-text, piece-statement, piece-rest, piece-end, piece-held, piece-broke, piece-over}
+use Rattle.ddl_service.proofs.Pieces.{piece-text, piece-statement, piece-rest, piece-end, piece-held, piece-broke, piece-over, piece-short}
 use Rattle.ddl_service.proofs.script.run_piece.Goals as goal
 
 pub loop-at-preserved : goal.loop-at-preserved
@@ -17,6 +17,14 @@ loop-at-preserved g c =
       later = omega (arith, kept.later, told.cause.later);
       beside = told.beside ∙ kept.beside;
     }
+
+pub run_text-requires-clause-short : goal.run_text-requires-clause-short
+run_text-requires-clause-short g c =
+    let fed = c.in-Statement.ensures in
+    let text : c.statement.result.now ≡ fed.0 = piece-text _ _ _ _ _ _ fed.1 c.statement.ensures in
+    let long = ap length text in
+    let short = piece-short _ _ _ _ _ fed.1 in
+    omega (arith, long, short)
 
 pub returns-in-NeedMore-clause-ok : goal.returns-in-NeedMore-clause-ok
 returns-in-NeedMore-clause-ok g c = piece-end _ _ _ c.args.piece.now c.loop-at.at c.loop-at.splitter c.feed.new.self _ _ _ _ c.loop-at.invariant.held c.loop-at.invariant.ran c.in-NeedMore.ensures
