@@ -81,25 +81,25 @@ named_shorter (said {a = a} t n) = omega (arith, shorter_token t, identifier_sho
 
 -- ---- checks of domains
 
-domain_check_at : (x : DomainCheck) (ws rest : List Word) → IsDomainCheck x ws rest → Below continues 11 rest → parse.domain_check ws ≡ Some (x, rest)
+domain_check_at : (x : DomainCheck) (ws rest : List Word) → IsDomainCheck 64 x ws rest → Below continues 11 rest → parse.domain_check ws ≡ Some (x, rest)
 unfolding parse.domain_check
 domain_check_at x ws rest (domain_check n c) s = rw (constraint_name_at n (ap begins_constraint (check_begins true 64 c)), check_at true 64 c)
 
-domain_check_sound : (ws : List Word) → Gives (parse.domain_check ws) (λ x a. IsDomainCheck x ws a)
+domain_check_sound : (ws : List Word) → Gives (parse.domain_check ws) (λ x a. IsDomainCheck 64 x ws a)
 unfolding parse.domain_check
 domain_check_sound ws = gives_then gives_constraint_name (λ n a is. gives_then (gives_check true 64) (λ e rest c. gives_some (domain_check is c)))
 
-domain_check_shorter : (x : DomainCheck) (ws rest : List Word) → IsDomainCheck x ws rest → length rest < length ws
+domain_check_shorter : (x : DomainCheck) (ws rest : List Word) → IsDomainCheck 64 x ws rest → length rest < length ws
 domain_check_shorter x ws rest (domain_check n c) = omega (arith, named_shorter n, check_shorter true 64 c)
 
-pub domain_check_parses : Parses continues parse.domain_check IsDomainCheck 11
+pub domain_check_parses : Parses continues parse.domain_check (IsDomainCheck 64) 11
 domain_check_parses = record { sound = domain_check_sound; complete = domain_check_at; shorter = domain_check_shorter }
 
 domain_check_by_name : {n : Option (List ℕ)} {e : Expr} {ws a rest : List Word} → Optional k.Constraint IsIdentifier n ws a → IsCheck true 64 e a rest → begins_domain_check (peek ws) ≡ true
 domain_check_by_name (said t n) c = ap begins_domain_check (peek_at t)
 domain_check_by_name left_out c = ap begins_domain_check (check_begins true 64 c)
 
-pub domain_check_begins : (x : DomainCheck) (ws rest : List Word) → IsDomainCheck x ws rest → begins_domain_check (peek ws) ≡ true
+pub domain_check_begins : (x : DomainCheck) (ws rest : List Word) → IsDomainCheck 64 x ws rest → begins_domain_check (peek ws) ≡ true
 domain_check_begins x ws rest (domain_check n c) = domain_check_by_name n c
 
 no_check_by : (kind : Kind) → continues kind < 10 → begins_domain_check kind ≡ false
@@ -115,13 +115,13 @@ check_binds k.Constraint e = lit< tt
 check_binds k.Check e = lit< tt
 check_binds _ e = cc
 
-check_below : (x : DomainCheck) (ws rest : List Word) → IsDomainCheck x ws rest → Below continues 11 ws
+check_below : (x : DomainCheck) (ws rest : List Word) → IsDomainCheck 64 x ws rest → Below continues 11 ws
 check_below x ws rest is = record { below = check_binds (peek ws) (domain_check_begins x ws rest is) }
 
-pub domain_checks_at : (xs : List DomainCheck) (ws rest : List Word) → Repeated IsDomainCheck xs ws rest → Below continues 10 rest → parse.domain_checks ws ≡ Some (xs, rest)
+pub domain_checks_at : (xs : List DomainCheck) (ws rest : List Word) → Repeated (IsDomainCheck 64) xs ws rest → Below continues 10 rest → parse.domain_checks ws ≡ Some (xs, rest)
 unfolding parse.domain_checks
-domain_checks_at xs ws rest m s = repeated_complete continues begins_domain_check 10 parse.domain_check IsDomainCheck 11 domain_check_parses domain_check_begins no_check check_below (lit≤ tt) xs ws rest m s
+domain_checks_at xs ws rest m s = repeated_complete continues begins_domain_check 10 parse.domain_check (IsDomainCheck 64) 11 domain_check_parses domain_check_begins no_check check_below (lit≤ tt) xs ws rest m s
 
-pub gives_domain_checks : {ws : List Word} → Gives (parse.domain_checks ws) (λ xs a. Repeated IsDomainCheck xs ws a)
+pub gives_domain_checks : {ws : List Word} → Gives (parse.domain_checks ws) (λ xs a. Repeated (IsDomainCheck 64) xs ws a)
 unfolding parse.domain_checks
-gives_domain_checks {ws} = repeated_sound continues begins_domain_check 10 parse.domain_check IsDomainCheck 11 domain_check_parses domain_check_begins no_check check_below (lit≤ tt) ws
+gives_domain_checks {ws} = repeated_sound continues begins_domain_check 10 parse.domain_check (IsDomainCheck 64) 11 domain_check_parses domain_check_begins no_check check_below (lit≤ tt) ws

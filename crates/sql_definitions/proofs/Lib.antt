@@ -3,3 +3,4 @@ pub mod ConditionProofs
 pub mod TableProofs
 pub mod BodyProofs
 pub mod RoutineProofs
+pub mod DefinitionDepths

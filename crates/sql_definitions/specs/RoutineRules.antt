@@ -1,5 +1,5 @@
 -- Parameters of routines, and their language.
-use Rattle.std.specs.Prelude.{ℕ, Bool, List, []}
+use Rattle.std.specs.Prelude.{ℕ, ◌-◌, Bool, List, []}
 use Rattle.sql_tree.specs.declared.sort.Param.{Param}
 use Rattle.sql_tree.specs.declared.sort.SqlType.{SqlType}
 use Rattle.sql_words.specs.declared.kind.Kind.TheVariants as k
@@ -8,15 +8,15 @@ use Rattle.sql_phrases.specs.Shapes.{Token, Separated, Marked}
 use Rattle.sql_phrases.specs.NameRules.{IsIdentifier}
 use Rattle.sql_phrases.specs.TypeRules.{IsType}
 
--- param := [IN] name type
-pub data IsParam : Param → List Word → List Word → Type 0 where
-  param : {in_said : Bool} {n : List ℕ} {t : SqlType} {ws a b rest : List Word} → Marked k.In in_said ws a → IsIdentifier n a b → IsType 63 t b rest
-      → IsParam (record { name = n; sort = t }) ws rest
+-- param := [IN] name type, in which m brackets may be opened
+pub data IsParam (m : ℕ) : Param → List Word → List Word → Type 0 where
+  param : {in_said : Bool} {n : List ℕ} {t : SqlType} {ws a b rest : List Word} → Marked k.In in_said ws a → IsIdentifier n a b → IsType m t b rest
+      → IsParam m (record { name = n; sort = t }) ws rest
 
--- '(' [param,..] ')'
-pub data IsParams : List Param → List Word → List Word → Type 0 where
-  no_params : {ws a rest : List Word} → Token k.LeftParen ws a → Token k.RightParen a rest → IsParams [] ws rest
-  params : {ps : List Param} {ws a b rest : List Word} → Token k.LeftParen ws a → Separated k.Comma IsParam ps a b → Token k.RightParen b rest → IsParams ps ws rest
+-- '(' [param,..] ')', with at most this many brackets open at one word
+pub data IsParams (most : ℕ) : List Param → List Word → List Word → Type 0 where
+  no_params : {ws a rest : List Word} → Token k.LeftParen ws a → Token k.RightParen a rest → IsParams most [] ws rest
+  params : {ps : List Param} {ws a b rest : List Word} → Token k.LeftParen ws a → Separated k.Comma (IsParam (most - 1)) ps a b → Token k.RightParen b rest → IsParams most ps ws rest
 
 -- [LANGUAGE SQL]
 pub data IsLanguage : List Word → List Word → Type 0 where

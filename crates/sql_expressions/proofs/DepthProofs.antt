@@ -32,7 +32,7 @@ use Rattle.sql_tree.specs.declared.sort.Special.{Special}
 use Rattle.sql_tree.specs.declared.sort.SqlType.{SqlType}
 use Rattle.sql_words.specs.declared.kind.Kind.TheVariants as k
 use Rattle.sql_words.specs.declared.word.Word.{Word}
-use Rattle.sql_phrases.specs.Shapes.{Spelled, Token, Separated, one, more, Optional}
+use Rattle.sql_phrases.specs.Shapes.{Spelled, Token, Separated, Optional}
 use Rattle.sql_phrases.specs.NameRules.{IsObjectName}
 use Rattle.sql_phrases.specs.NameRules as names
 use Rattle.sql_phrases.specs.TypeRules as types
@@ -42,11 +42,11 @@ use Rattle.sql_expressions.specs.QueryRules.{IsReference, IsAlias, IsTableRefere
 use Rattle.sql_expressions.specs.ExpressionRules as rules
 use Rattle.sql_expressions.specs.ExpressionRules.{IsComparison, IsAdditive, IsMultiplicative, IsAggregate, IsArguments, IsArm, IsCastOperand, IsOperand, IsFactor, IsMultiplied, IsTerm, IsAdded, IsSum, IsTail, IsPredicate, IsNegation, IsConjunction, IsExpr, IsExprWithin, IsQueryWithin}
 use Rattle.sql_expressions.specs.Depth.{most_open}
-use Rattle.sql_expressions.proofs.Depths.{Peak, peak_none, flat_then, peak_token, peak_spelled, peak_marked, peak_identifier, Deep, flat, deep_then, deep_map, deep_token, deep_paren, deep_case, deep_separated, deep_repeated, deep_optional}
+use Rattle.sql_expressions.proofs.Depths.{Peak, peak_none, flat_then, peak_token, peak_spelled, peak_marked, peak_identifier, peak_separated, Deep, flat, deep_then, deep_map, closed, deep_token, deep_paren, deep_case, deep_separated, deep_repeated, deep_optional}
 
 -- ---- names
 
-peak_object_name : {o : ObjectName} {ws rest : List Word} → IsObjectName o ws rest → Peak 0 ws rest
+pub peak_object_name : {o : ObjectName} {ws rest : List Word} → IsObjectName o ws rest → Peak 0 ws rest
 peak_object_name (names.unqualified n) = peak_identifier n
 peak_object_name (names.qualified s d n) = flat_then (peak_identifier s) (flat_then (peak_token d (λ n. refl)) (peak_identifier n))
 
@@ -71,8 +71,7 @@ peak_set_operator (queries.union t) = peak_token t (λ n. refl)
 peak_set_operator (queries.except t) = peak_token t (λ n. refl)
 
 peak_references : {rs : List Reference} {ws rest : List Word} → Separated k.Comma IsReference rs ws rest → Peak 0 ws rest
-peak_references (one r) = peak_reference r
-peak_references (more r t m) = flat_then (peak_reference r) (flat_then (peak_token t (λ n. refl)) (peak_references m))
+peak_references s = peak_separated IsReference (λ r ws rest i. peak_reference i) (λ n. refl) s
 
 peak_grouping : {rs : List Reference} {ws rest : List Word} → IsGrouping rs ws rest → Peak 0 ws rest
 peak_grouping queries.no_grouping = peak_none
@@ -158,7 +157,7 @@ module _ {m : ℕ} (Whole : Spelled Expr) (W : ℕ → Spelled Expr) (f : (e : E
 
 -- ---- operators
 
-peak_special : {s : Special} {ws rest : List Word} → IsSpecial s ws rest → Peak 0 ws rest
+pub peak_special : {s : Special} {ws rest : List Word} → IsSpecial s ws rest → Peak 0 ws rest
 peak_special (types.current_user t) = peak_token t (λ n. refl)
 peak_special (types.current_date t) = peak_token t (λ n. refl)
 peak_special (types.current_time t) = peak_token t (λ n. refl)
@@ -189,9 +188,6 @@ peak_aggregate (rules.max t) = peak_token t (λ n. refl)
 peak_aggregate (rules.avg t) = peak_token t (λ n. refl)
 
 -- ---- expressions, where those in brackets are counted
-
-closed : (n : ℕ) → suc n - 1 ≡ n
-closed n = omega arith
 
 module _ (value : Bool) (n : ℕ)
     (f : 0 < n → (e : Expr) (ws rest : List Word) → IsExprWithin value n e ws rest → Deep (n - 1) ws rest (λ j. IsExprWithin value (suc j) e ws rest)) where

@@ -7,7 +7,7 @@ use Rattle.sql_words.specs.declared.kind.Kind.{Kind}
 use Rattle.sql_words.specs.declared.kind.Kind.TheVariants as k
 use Rattle.sql_words.specs.declared.word.Word.{Word}
 use Rattle.sql_phrases.specs.Shapes.{Spelled, Token, token, Spells, spells, Separated, one, more, Repeated, no_more, again, Optional, left_out, said, Marked, absent, present}
-use Rattle.sql_phrases.specs.NameRules.{IsIdentifier, identifier}
+use Rattle.sql_phrases.specs.NameRules.{IsIdentifier, identifier, IsIdentifiers}
 use Rattle.sql_expressions.specs.Depth.{open_after, open_behind, most_open}
 
 behind_append : (n : ℕ) (f g : List Word) → open_behind n (f ++ g) ≡ open_behind (open_behind n f) g
@@ -69,6 +69,18 @@ name_keeps _ e n = refl
 pub peak_identifier : {t : List ℕ} {ws rest : List Word} → IsIdentifier t ws rest → Peak 0 ws rest
 peak_identifier (identifier {w = w} {rest = rest} h is) = peak_word w rest (name_keeps (kind_of w) h)
 
+module _ {A : Type 0} (R : Spelled A) (f : (x : A) (ws rest : List Word) → R x ws rest → Peak 0 ws rest) where
+  pub peak_separated : {by : Kind} → ((n : ℕ) → open_after by n ≡ n) → {xs : List A} {ws rest : List Word} → Separated by R xs ws rest → Peak 0 ws rest
+  peak_separated keeps {ws = ws} {rest = rest} (one {x = x} r) = f x ws rest r
+  peak_separated keeps {ws = ws} (more {x = x} {a = a} r t s) = flat_then (f x ws a r) (flat_then (peak_token t keeps) (peak_separated keeps s))
+
+  pub peak_optional : {by : Kind} → ((n : ℕ) → open_after by n ≡ n) → {x : Option A} {ws rest : List Word} → Optional by R x ws rest → Peak 0 ws rest
+  peak_optional keeps left_out = peak_none
+  peak_optional keeps {rest = rest} (said {x = x} {a = a} t r) = flat_then (peak_token t keeps) (f x a rest r)
+
+pub peak_identifiers : {ns : List (List ℕ)} {ws rest : List Word} → IsIdentifiers ns ws rest → Peak 0 ws rest
+peak_identifiers s = peak_separated IsIdentifier (λ n ws rest i. peak_identifier i) (λ n. refl) s
+
 -- a bracket, what stands in it, and its end
 pub peak_bracket : {first last : Kind} {c : ℕ} {ws a b rest : List Word} → Token first ws a → Peak c a b → Token last b rest → ((n : ℕ) → open_after first n ≡ suc n)
     → ((n : ℕ) → open_after last (suc n) ≡ n) → Peak (suc c) ws rest
@@ -92,6 +104,9 @@ pub record Deep (most : ℕ) (ws rest : List Word) (R : ℕ → Type 0) : Type 0
   pub few : deep ≤ most
   pub peak : Peak deep ws rest
   pub still : (n : ℕ) → deep ≤ n → R n
+
+pub deep_more : {m n : ℕ} {ws rest : List Word} {P : ℕ → Type 0} → m ≤ n → Deep m ws rest P → Deep n ws rest P
+deep_more le p = record { deep = p.deep; few = omega (arith, le, p.few); peak = p.peak; still = p.still }
 
 pub flat : {m : ℕ} {ws rest : List Word} {P : ℕ → Type 0} → Peak 0 ws rest → ((n : ℕ) → P n) → Deep m ws rest P
 flat p x = record { deep = 0; few = omega arith; peak = p; still = λ n le. x n }
@@ -120,7 +135,7 @@ deep_bracket P lt o p c opens closes = record {
   still = deeper P p.deep p.still;
 }
 
-closed : (n : ℕ) → suc n - 1 ≡ n
+pub closed : (n : ℕ) → suc n - 1 ≡ n
 closed n = omega arith
 
 -- '(' and ')'
@@ -128,10 +143,24 @@ pub deep_paren : (P : ℕ → Type 0) {m : ℕ} {ws a b rest : List Word} → 0 
     → Deep m ws rest (λ n. (0 < n) × P n)
 deep_paren P lt o p c = deep_bracket P lt o p c (λ n. refl) closed
 
+-- BEGIN and END
+pub deep_begin : (P : ℕ → Type 0) {m : ℕ} {ws a b rest : List Word} → 0 < m → Token k.Begin ws a → Deep (m - 1) a b (λ n. P (suc n)) → Token k.End b rest
+    → Deep m ws rest (λ n. (0 < n) × P n)
+deep_begin P lt o p c = deep_bracket P lt o p c (λ n. refl) closed
+
 -- CASE and END
 pub deep_case : (P : ℕ → Type 0) {m : ℕ} {ws a b rest : List Word} → 0 < m → Token k.Case ws a → Deep (m - 1) a b (λ n. P (suc n)) → Token k.End b rest
     → Deep m ws rest (λ n. (0 < n) × P n)
 deep_case P lt o p c = deep_bracket P lt o p c (λ n. refl) closed
+
+-- '(' and ')', where one less may be opened between them
+pub deep_within : (P : ℕ → Type 0) {m : ℕ} {ws a b rest : List Word} → Token k.LeftParen ws a → Deep m a b P → Token k.RightParen b rest → Deep (suc m) ws rest (λ n. P (n - 1))
+deep_within P o p c = record {
+  deep = suc p.deep;
+  few = omega (arith, p.few);
+  peak = peak_bracket o p.peak c (λ n. refl) closed;
+  still = λ n le. p.still (n - 1) (omega (arith, le));
+}
 
 pub deep_token : {by : Kind} {m : ℕ} {ws rest : List Word} → Token by ws rest → ((n : ℕ) → open_after by n ≡ n) → Deep m ws rest (λ _. Token by ws rest)
 deep_token t keeps = flat (peak_token t keeps) (λ _. t)

@@ -1,5 +1,5 @@
 -- What CREATE makes: what is read is spelled so, and what is spelled so is read.
-use Rattle.std.proofs.Common.{◌≡◌, ℕ, ◌<◌, ◌≤◌, Bool, true, false, List, [], ◌∷◌, Option, Some, None, refl, arith, lit<, lit≤}
+use Rattle.std.proofs.Common.{◌≡◌, ℕ, ◌<◌, Bool, true, false, List, Option, Some, refl, lit<, lit≤}
 use Rattle.sql_tree.specs.declared.body.Act.{Act}
 use Rattle.sql_tree.specs.declared.body.Body.TheVariants as bodies
 use Rattle.sql_tree.specs.declared.body.Security.TheVariants.{Definer}
@@ -9,7 +9,6 @@ use Rattle.sql_tree.specs.declared.expr.Query.{Query}
 use Rattle.sql_tree.specs.declared.sort.Default.{Default}
 use Rattle.sql_tree.specs.declared.sort.Param.{Param}
 use Rattle.sql_tree.specs.declared.sort.SqlType.{SqlType}
-use Rattle.sql_tree.specs.declared.statement.Statement.{Statement}
 use Rattle.sql_tree.specs.declared.statement.Statement.TheVariants as statements
 use Rattle.sql_tree.specs.declared.table.DomainCheck.{DomainCheck}
 use Rattle.sql_tree.specs.declared.table.TableElement.{TableElement}
@@ -66,11 +65,11 @@ check_ends_type k.Constraint e = lit< tt
 check_ends_type k.Check e = lit< tt
 check_ends_type _ e = cc
 
-checks_below : {xs : List DomainCheck} {ws rest : List Word} → Repeated IsDomainCheck xs ws rest → Below follows 1 rest → Below follows 10 ws
+checks_below : {xs : List DomainCheck} {ws rest : List Word} → Repeated (IsDomainCheck 64) xs ws rest → Below follows 1 rest → Below follows 10 ws
 checks_below {ws = ws} no_more s = below_more follows 1 10 ws s (lit≤ tt)
 checks_below {ws = ws} (again {x = x} {a = a} r m) s = record { below = check_ends_type (peek ws) (domain_check_begins x ws a r) }
 
-no_default : {xs : List DomainCheck} {ws rest : List Word} → Repeated IsDomainCheck xs ws rest → Below continues 1 rest → sees k.Default ws ≡ false
+no_default : {xs : List DomainCheck} {ws rest : List Word} → Repeated (IsDomainCheck 64) xs ws rest → Below continues 1 rest → sees k.Default ws ≡ false
 no_default {ws = ws} no_more s = passes continues 1 k.Default ws s (lit≤ tt)
 no_default {ws = ws} (again {x = x} {a = a} r m) s = sees_differs begins_domain_check k.Default ws (domain_check_begins x ws a r) refl
 
@@ -87,7 +86,7 @@ as_end {ws = ws} absent t = sees_differs begins_type k.Period ws (type_begins 64
 as_end {ws = ws} (present u) t = sees_other k.Period k.As ws (peek_at u) refl
 
 pub create_domain_at : {n : ObjectName} {m : Bool} {t : SqlType} {value : Option Default} {xs : List DomainCheck} {ws a b c d rest : List Word} → IsObjectName n ws a → Marked k.As m a b
-    → IsType 64 t b c → Optional k.Default IsDefault value c d → Repeated IsDomainCheck xs d rest → Below follows 1 rest → Below continues 1 rest
+    → IsType 64 t b c → Optional k.Default IsDefault value c d → Repeated (IsDomainCheck 64) xs d rest → Below follows 1 rest → Below continues 1 rest
     → parse.create_domain ws ≡ Some (statements.CreateDomain (record { domain = n; sort = t; default = value; checks = xs }), rest)
 unfolding parse.create_domain
 create_domain_at {value = value} {xs = xs} {c = c} {d = d} {rest = rest} o u t v m e z =
@@ -110,7 +109,7 @@ language_below : {ws a rest : List Word} → IsLanguage ws a → Token k.Return 
 language_below no_language t = below_token follows 10 t (lit< tt)
 language_below (language l q) t = below_token follows 10 l (lit< tt)
 
-pub create_function_at : {n : ObjectName} {ps : List Param} {t : SqlType} {x : Expr} {ws a b c d e f rest : List Word} → IsObjectName n ws a → IsParams ps a b → Token k.Returns b c → IsType 64 t c d
+pub create_function_at : {n : ObjectName} {ps : List Param} {t : SqlType} {x : Expr} {ws a b c d e f rest : List Word} → IsObjectName n ws a → IsParams 64 ps a b → Token k.Returns b c → IsType 64 t c d
     → IsLanguage d e → Token k.Return e f → IsExprWithin false 65 x f rest → Below binds 1 rest
     → parse.create_function ws ≡ Some (statements.CreateFunction (record { function = n; params = ps; returns = t; body = bodies.Return Definer x }), rest)
 unfolding parse.create_function
@@ -125,8 +124,8 @@ create_function_at {x = x} {e = e} {f = f} {rest = rest} o ps r t l u is s =
       (expr_within_parses false 65).complete x f rest is (below_more binds 1 7 rest s (lit≤ tt)),
     )
 
-pub create_procedure_at : {n : ObjectName} {ps : List Param} {xs : List Act} {ws a b c d e f rest : List Word} → IsObjectName n ws a → IsParams ps a b → IsLanguage b c → Token k.Begin c d
-    → Token k.Atomic d e → IsActs xs e f → Token k.End f rest
+pub create_procedure_at : {n : ObjectName} {ps : List Param} {xs : List Act} {ws a b c d e f rest : List Word} → IsObjectName n ws a → IsParams 64 ps a b → IsLanguage b c → Token k.Begin c d
+    → Token k.Atomic d e → IsActs 64 xs e f → Token k.End f rest
     → parse.create_procedure ws ≡ Some (statements.CreateProcedure (record { procedure = n; params = ps; body = bodies.Atomic Definer xs }), rest)
 unfolding parse.create_procedure
 create_procedure_at {c = c} o ps l b a xs e =
@@ -135,16 +134,16 @@ create_procedure_at {c = c} o ps l b a xs e =
 -- ---- what is read
 
 module _ {ws a b : List Word} (t : Token k.Create ws a) where
-  pub gives_create_table : Token k.Table a b → Gives (parse.create_table b) (λ x rest. IsStatement x ws rest)
+  pub gives_create_table : Token k.Table a b → Gives (parse.create_table b) (λ x rest. IsStatement 64 x ws rest)
   unfolding parse.create_table
   gives_create_table c = gives_then gives_object_name (λ o d is. gives_then (gives_table_elements 63) (λ es rest is'. gives_some (create_table t c is is')))
 
-  pub gives_create_view : Token k.View a b → Gives (parse.create_view b) (λ x rest. IsStatement x ws rest)
+  pub gives_create_view : Token k.View a b → Gives (parse.create_view b) (λ x rest. IsStatement 64 x ws rest)
   unfolding parse.create_view
   gives_create_view c = gives_then gives_object_name (λ v d o. gives_then gives_columns (λ cs e l. gives_then (gives_expect k.As tt) (λ _ f u. gives_then ((query_within_parses false 65).sound f) (λ q rest is.
       gives_some (create_view t c o l u is)))))
 
-  pub gives_create_domain : Token k.Domain a b → Gives (parse.create_domain b) (λ x rest. IsStatement x ws rest)
+  pub gives_create_domain : Token k.Domain a b → Gives (parse.create_domain b) (λ x rest. IsStatement 64 x ws rest)
   unfolding parse.create_domain
   gives_create_domain c = gives_then gives_object_name (λ n d o. gives_ate k.As tt
       (λ u. gives_then (gives_type 64) (λ ty e is. gives_then (optional_sound k.Default tt types.default IsDefault (λ l. gives_default) e) (λ v f ds. gives_then gives_domain_checks (λ xs rest m.
@@ -152,16 +151,16 @@ module _ {ws a b : List Word} (t : Token k.Create ws a) where
       (λ e'. rw e' (gives_then (gives_type 64) (λ ty e is. gives_then (optional_sound k.Default tt types.default IsDefault (λ l. gives_default) e) (λ v f ds. gives_then gives_domain_checks (λ xs rest m.
       gives_some (create_domain t c o absent is ds m)))))))
 
-  pub gives_create_assertion : Token k.Assertion a b → Gives (parse.create_assertion b) (λ x rest. IsStatement x ws rest)
+  pub gives_create_assertion : Token k.Assertion a b → Gives (parse.create_assertion b) (λ x rest. IsStatement 64 x ws rest)
   unfolding parse.create_assertion
   gives_create_assertion c = gives_then gives_object_name (λ n d o. gives_then (gives_check false 64) (λ x rest is. gives_some (create_assertion t c o is)))
 
-  pub gives_create_function : Token k.Function a b → Gives (parse.create_function b) (λ x rest. IsStatement x ws rest)
+  pub gives_create_function : Token k.Function a b → Gives (parse.create_function b) (λ x rest. IsStatement 64 x ws rest)
   unfolding parse.create_function
   gives_create_function c = gives_then gives_object_name (λ n d o. gives_then gives_params (λ ps e is. gives_then (gives_expect k.Returns tt) (λ _ f r. gives_then (gives_type 64) (λ ty g it.
       gives_then gives_language (λ _ h l. gives_then (gives_expect k.Return tt) (λ _ i u. gives_then ((expr_within_parses false 65).sound i) (λ x rest ix. gives_some (create_function t c o is r it l u ix))))))))
 
-  pub gives_create_procedure : Token k.Procedure a b → Gives (parse.create_procedure b) (λ x rest. IsStatement x ws rest)
+  pub gives_create_procedure : Token k.Procedure a b → Gives (parse.create_procedure b) (λ x rest. IsStatement 64 x ws rest)
   unfolding parse.create_procedure
   gives_create_procedure c = gives_then gives_object_name (λ n d o. gives_then gives_params (λ ps e is. gives_then gives_language (λ _ f l. gives_then (gives_expect k.Begin tt) (λ _ g u.
       gives_then (gives_expect k.Atomic tt) (λ _ h v. gives_then gives_acts (λ xs i m. gives_then (gives_expect k.End tt) (λ _ rest w. gives_some (create_procedure t c o is l u v m w))))))))

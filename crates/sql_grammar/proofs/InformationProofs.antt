@@ -1,22 +1,20 @@
 -- SELECT from a view of the Information Schema: what is read is spelled so, and what is spelled so is read.
-use Rattle.std.proofs.Common.{◌≡◌, ℕ, ◌<◌, ◌≤◌, Bool, true, false, List, [], ◌∷◌, length, Option, Some, None, refl, ap, arith, lit<, lit≤}
+use Rattle.std.proofs.Common.{◌≡◌, ◌<◌, List, length, Some, refl, arith, lit<, lit≤}
 use Rattle.sql_tree.specs.declared.statement.InfoColumns.{InfoColumns}
 use Rattle.sql_tree.specs.declared.statement.InfoQuery.{InfoQuery}
 use Rattle.sql_tree.specs.declared.statement.InfoTest.{InfoTest}
 use Rattle.sql_tree.specs.declared.statement.InfoValue.{InfoValue}
 use Rattle.sql_words.specs.Kinds.{is_name, same_kind}
 use Rattle.sql_words.specs.declared.word.Word.{Word}
-use Rattle.sql_words.specs.declared.kind.Kind.{Kind}
 use Rattle.sql_words.specs.declared.kind.Kind.TheVariants as k
 use Rattle.sql_phrases.specs.Reading.{peek, next, sees, after}
-use Rattle.sql_phrases.specs.Shapes.{Token, Spells, Separated}
-use Rattle.sql_phrases.specs.NameRules.{IsIdentifier}
+use Rattle.sql_phrases.specs.Shapes.{Token, Separated}
 use Rattle.sql_grammar.specs.InformationRules.{IsInfoValue, literal, number, IsInfoTest, equals, is_null, IsInfoTests, no_tests, tests_after, IsInfoColumns, all_columns, named_columns, IsInfoQuery, info_query}
 use Rattle.sql_phrases.specs.Parsers.{separated}
 use Rattle.sql_grammar.specs.InformationParsers as parse
 use Rattle.sql_phrases.proofs.Follow.{follows, Below, below_more, passes, sees_differs, sees_other}
-use Rattle.sql_phrases.proofs.Lists.{Gives, gives_none, gives_some, gives_then, gives_if, gives_weaker, after_not, gives_eat, gives_expect, gives_text, expect_at, text_at, sees_at, after_at, next_at, peek_at, peek_spelled, sees_spelled, below_token, shorter_token, shorter_spelled, Parses, separated_parses}
-use Rattle.sql_phrases.proofs.NameProofs.{identifier_at, gives_identifier, identifier_never, identifier_shorter, identifiers_parse, identifiers_begin}
+use Rattle.sql_phrases.proofs.Lists.{Gives, gives_some, gives_then, gives_if, gives_weaker, after_not, gives_eat, gives_expect, gives_text, expect_at, text_at, sees_at, after_at, next_at, peek_at, peek_spelled, sees_spelled, below_token, shorter_token, shorter_spelled, Parses, separated_parses}
+use Rattle.sql_phrases.proofs.NameProofs.{identifier_at, gives_identifier, identifier_shorter, identifiers_parse, identifiers_begin}
 
 info_value_at : {x : InfoValue} {ws rest : List Word} → IsInfoValue x ws rest → parse.info_value ws ≡ Some (x, rest)
 unfolding parse.info_value

@@ -3,3 +3,4 @@ pub mod AlterProofs
 pub mod RightsProofs
 pub mod CreateProofs
 pub mod StatementProofs
+pub mod StatementDepths

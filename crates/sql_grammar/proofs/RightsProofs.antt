@@ -1,5 +1,5 @@
 -- Privileges, their targets, grantees and grantors: what is read is spelled so, and what is spelled so is read.
-use Rattle.std.proofs.Common.{◌≡◌, ℕ, ◌<◌, ◌≤◌, Bool, true, false, List, [], ◌∷◌, length, Option, Some, None, refl, ap, subst, arith, lit<, lit≤}
+use Rattle.std.proofs.Common.{◌≡◌, ℕ, ◌<◌, Bool, true, false, List, [], ◌∷◌, length, Option, Some, None, refl, ap, subst, arith, lit<, lit≤}
 use denote.Enum.Bare.{sameb, true_same}
 use Rattle.sql_tree.specs.declared.column.ObjectName.{ObjectName}
 use Rattle.sql_tree.specs.declared.rights.Grantee.{Grantee}
@@ -15,18 +15,17 @@ use Rattle.sql_words.specs.contracts.kind.Kind.{the_type}
 use Rattle.sql_words.specs.declared.word.Word.{Word}
 use Rattle.sql_words.specs.declared.kind.Kind.{Kind}
 use Rattle.sql_words.specs.declared.kind.Kind.TheVariants as k
-use Rattle.sql_phrases.specs.Reading.{peek, next, sees, after}
-use Rattle.sql_phrases.specs.Shapes.{Spelled, Token, token, Separated, one, more, Optional}
-use Rattle.sql_phrases.specs.NameRules.{IsIdentifier, identifier, IsObjectName, unqualified, qualified, IsIdentifiers, IsColumns}
+use Rattle.sql_phrases.specs.Reading.{peek, next, sees}
+use Rattle.sql_phrases.specs.Shapes.{Token, token, Separated, one, more}
+use Rattle.sql_phrases.specs.NameRules.{identifier, IsObjectName, unqualified, qualified, IsIdentifiers}
 use Rattle.sql_phrases.specs.NameParsers.{sees_name}
-use Rattle.sql_phrases.specs.NameParsers as names
 use Rattle.sql_grammar.specs.RightsRules.{IsBehaviour, unsaid, restrict, cascade, IsGrantor, current_user, current_role, IsGrantorAfter, grantor_after, IsGrantedBy, IsGrantee, named, public, IsPrivilege, select, insert, update, references, delete, usage, execute, IsPrivileges, all_privileges, listed, IsTarget, unmarked, table, domain, function, procedure, routine, fit, IsPrivilegesOn, on_target, IsWithOption, without, with_option, IsOptionFor, whole, option_for}
 use Rattle.sql_phrases.specs.Parsers.{separated}
 use Rattle.sql_grammar.specs.RightsParsers as parse
 use Rattle.sql_grammar.specs.RightsParsers.{names_then}
 use Rattle.sql_phrases.proofs.Follow.{follows, Below, below_more, passes, sees_differs, sees_other}
 use Rattle.sql_phrases.proofs.Lists.{Gives, gives_none, gives_some, gives_then, gives_if, gives_weaker, after_not, token_next, gives_eat, gives_ate, gives_expect, expect_at, sees_at, after_at, next_at, peek_at, below_token, shorter_token, IsWord, Parses, separated_parses, optional_complete, optional_sound, optional_below}
-use Rattle.sql_phrases.proofs.NameProofs.{identifier_at, gives_identifier, identifier_begins, identifier_next, identifier_never, identifier_shorter, object_name_at, gives_object_name, object_name_begins, identifiers_begin, columns_at, gives_columns, columns_shorter}
+use Rattle.sql_phrases.proofs.NameProofs.{identifier_at, gives_identifier, identifier_next, identifier_never, identifier_shorter, object_name_at, gives_object_name, object_name_begins, columns_at, gives_columns, columns_shorter}
 
 -- ---- [RESTRICT | CASCADE]
 

@@ -1,5 +1,5 @@
 -- Statements: what is read is spelled so, and what is spelled so is read.
-use Rattle.std.proofs.Common.{◌≡◌, ℕ, ◌<◌, ◌≤◌, Bool, true, false, List, [], ◌∷◌, length, Option, Some, None, Err, refl, sym, ap, ◌∙◌, arith, lit<, lit≤}
+use Rattle.std.proofs.Common.{◌≡◌, Bool, true, false, List, [], ◌∷◌, length, Some, Err, refl, sym, ap, ◌∙◌, arith, lit<, lit≤}
 use Rattle.std.proofs.lemmas.Bool.{and_parts}
 use Rattle.std.proofs.lemmas.Option.{some_pair_parts}
 use Rattle.sql_tree.specs.declared.rights.Privileges.{Privileges}
@@ -8,30 +8,29 @@ use Rattle.sql_tree.specs.declared.statement.DropKind.{DropKind}
 use Rattle.sql_tree.specs.declared.statement.RoleChoice.{RoleChoice}
 use Rattle.sql_tree.specs.declared.statement.SchemaNameClause.{SchemaNameClause}
 use Rattle.sql_tree.specs.declared.statement.Statement.{Statement}
-use Rattle.sql_words.specs.Kinds.{kind_of, is_name, same_kind}
+use Rattle.sql_words.specs.Kinds.{is_name, same_kind}
 use Rattle.sql_words.specs.declared.word.Word.{Word}
 use Rattle.sql_words.specs.declared.kind.Kind.{Kind}
 use Rattle.sql_words.specs.declared.kind.Kind.TheVariants as k
-use Rattle.sql_phrases.specs.Reading.{peek, next, sees, after}
-use Rattle.sql_phrases.specs.Shapes.{Spelled, Token, token, Separated, Optional}
-use Rattle.sql_phrases.specs.NameRules.{IsIdentifier, IsLiteralName, IsObjectName, IsIdentifiers}
-use Rattle.sql_grammar.specs.RightsRules.{IsBehaviour, IsGrantorAfter, IsGrantedBy, IsGrantee, IsPrivilegesOn, IsWithOption, IsOptionFor, whole, option_for}
+use Rattle.sql_phrases.specs.Reading.{peek, next, sees}
+use Rattle.sql_phrases.specs.Shapes.{Token, token}
+use Rattle.sql_phrases.specs.NameRules.{IsIdentifier, IsLiteralName}
+use Rattle.sql_grammar.specs.RightsRules.{IsGrantorAfter, IsPrivilegesOn, IsOptionFor, whole, option_for}
 use Rattle.sql_grammar.specs.StatementRules.{IsRoleChoice, by_literal, by_name, no_role, IsSchemaNameClause, named, authorization, IsDropKind, table, view, domain, assertion, function, procedure, routine, IsStatement, connect, set_connection, disconnect, set_schema, set_role, create_schema, create_role, create_table, create_view, create_domain, create_assertion, create_function, create_procedure, alter_table, alter_domain, select, drop_role, drop_schema, drop_object, grant_privileges, revoke_privileges, grant_roles, revoke_roles}
 use Rattle.sql_phrases.specs.declared.error.GrammarError.{GrammarError}
 use Rattle.sql_phrases.specs.declared.error.GrammarError.TheVariants.{Syntax, NotInProfile, Memory}
-use Rattle.sql_phrases.specs.Parsers.{Reads, separated}
+use Rattle.sql_phrases.specs.Parsers.{Reads}
 use Rattle.sql_phrases.specs.NameParsers as names
 use Rattle.sql_grammar.specs.RightsParsers as rights
 use Rattle.sql_grammar.specs.RightsParsers.{names_then}
 use Rattle.sql_grammar.specs.StatementParsers as parse
 use Rattle.sql_grammar.specs.StatementParsers.{sees_admin_option}
-use Rattle.sql_phrases.proofs.Follow.{follows, Below, below_more, passes, sees_is, sees_other}
-use Rattle.sql_phrases.proofs.Lists.{Gives, gives_none, gives_some, gives_then, gives_if, after_not, token_next, token_seen, gives_eat, gives_expect, expect_at, sees_at, after_at, next_at, peek_at, below_token, Parses, optional_complete, optional_sound}
+use Rattle.sql_phrases.proofs.Follow.{follows, Below, below_more, passes, sees_other}
+use Rattle.sql_phrases.proofs.Lists.{Gives, gives_none, gives_some, gives_then, gives_if, after_not, token_next, token_seen, gives_eat, gives_expect, expect_at, sees_at, after_at, next_at, peek_at, below_token, optional_complete, optional_sound}
 use Rattle.sql_phrases.proofs.NameProofs.{identifier_at, gives_identifier, identifier_never, literal_name_at, gives_literal_name, literal_name_begins, object_name_at, gives_object_name, identifiers_parse}
 use Rattle.sql_grammar.proofs.RightsProofs.{behaviour_at, gives_behaviour, behaviour_below, grantor_after_at, gives_grantor_after, granted_by_at, gives_granted_by, granted_by_below, grantees_parse, privileges_on_at, gives_privileges_on, privileges_on_never, privileges_on_then, with_option_at, gives_with_option, with_option_below, option_for_at, gives_option_for, names_then_no, roles_then}
 use Rattle.sql_grammar.proofs.AlterProofs.{alter_table_action_at, gives_alter_table_action, alter_table_action_begins, alter_domain_action_at, gives_alter_domain_action, alter_domain_action_begins}
 use Rattle.sql_expressions.proofs.Binding.{binds}
-use Rattle.sql_expressions.proofs.WithinProofs.{expr_within_parses, query_within_parses}
 use Rattle.sql_definitions.proofs.Continuing.{continues}
 use Rattle.sql_grammar.proofs.CreateProofs.{create_table_at, create_view_at, create_domain_at, create_assertion_at, create_function_at, create_procedure_at, gives_create_table, gives_create_view, gives_create_domain, gives_create_assertion, gives_create_function, gives_create_procedure}
 use Rattle.sql_grammar.proofs.InformationProofs.{info_query_at, gives_info_query}
@@ -94,7 +93,7 @@ admin_option_no_roles (token h) (token e) = rw (h, e) refl
 
 -- ---- statements
 
-pub statement_at : (x : Statement) (ws rest : List Word) → IsStatement x ws rest → Below follows 1 rest → Below continues 1 rest → Below binds 1 rest → parse.statement ws ≡ Some (x, rest)
+pub statement_at : (x : Statement) (ws rest : List Word) → IsStatement 64 x ws rest → Below follows 1 rest → Below continues 1 rest → Below binds 1 rest → parse.statement ws ≡ Some (x, rest)
 unfolding parse.statement parse.connect parse.set parse.create parse.create_schema parse.create_role parse.admin parse.alter parse.alter_table parse.alter_domain parse.drop parse.drop_schema parse.drop_object parse.grant parse.grant_privileges parse.grant_roles parse.revoke parse.revoke_privileges parse.revoke_roles parse.revoke_admin_option sees_admin_option is_name same_kind
 statement_at x ws rest (connect {connection = cn} {c = c} {d = d} t o s an u n) e z g =
     rw (peek_at t, next_at t, expect_at o, literal_name_at s, optional_complete k.As names.literal_name IsLiteralName cn c d an (sees_other k.As k.User d (peek_at u) refl) (λ y a r. literal_name_at r), expect_at u, literal_name_at n)
@@ -188,18 +187,18 @@ statement_at x ws rest (revoke_roles {roles = rs} {gs = gs} {a = a} {b = l} {c =
       behaviour_at b e,
     )
 
-gives_connect : {ws a : List Word} → Token k.Connect ws a → Gives (parse.connect a) (λ x rest. IsStatement x ws rest)
+gives_connect : {ws a : List Word} → Token k.Connect ws a → Gives (parse.connect a) (λ x rest. IsStatement 64 x ws rest)
 unfolding parse.connect
 gives_connect t = gives_then (gives_expect k.To tt) (λ _ b o. gives_then gives_literal_name (λ s c is. gives_then (optional_sound k.As tt names.literal_name IsLiteralName (λ l. gives_literal_name) c) (λ cn d an.
     gives_then (gives_expect k.User tt) (λ _ e u. gives_then gives_literal_name (λ n rest is'. gives_some (connect t o is an u is'))))))
 
-gives_set : {ws a : List Word} → Token k.Set ws a → (kind : Kind) → peek a ≡ kind → Gives (parse.set_by kind a) (λ x rest. IsStatement x ws rest)
+gives_set : {ws a : List Word} → Token k.Set ws a → (kind : Kind) → peek a ≡ kind → Gives (parse.set_by kind a) (λ x rest. IsStatement 64 x ws rest)
 gives_set t k.Connection e = gives_then gives_literal_name (λ n rest is. gives_some (set_connection t (token_next k.Connection tt e) is))
 gives_set t k.Schema e = gives_then gives_literal_name (λ n rest is. gives_some (set_schema t (token_next k.Schema tt e) is))
 gives_set t k.Role e = gives_then gives_role_choice (λ r rest is. gives_some (set_role t (token_next k.Role tt e) is))
 gives_set t _ e = gives_none
 
-gives_create : {ws a : List Word} → Token k.Create ws a → (kind : Kind) → peek a ≡ kind → Gives (parse.create_by kind a) (λ x rest. IsStatement x ws rest)
+gives_create : {ws a : List Word} → Token k.Create ws a → (kind : Kind) → peek a ≡ kind → Gives (parse.create_by kind a) (λ x rest. IsStatement 64 x ws rest)
 unfolding parse.create_schema parse.create_role parse.admin
 gives_create t k.Schema e = gives_then gives_schema_name_clause (λ n rest is. gives_some (create_schema t (token_next k.Schema tt e) is))
 gives_create t k.Role e = gives_then gives_identifier (λ n b is. gives_then (optional_sound k.With tt (rights.grantor_after k.Admin) (IsGrantorAfter k.Admin) (gives_grantor_after k.Admin tt) b)
@@ -212,17 +211,17 @@ gives_create t k.Function e = gives_create_function t (token_next k.Function tt 
 gives_create t k.Procedure e = gives_create_procedure t (token_next k.Procedure tt e)
 gives_create t _ e = gives_none
 
-gives_alter : {ws a : List Word} → Token k.Alter ws a → Gives (parse.alter a) (λ x rest. IsStatement x ws rest)
+gives_alter : {ws a : List Word} → Token k.Alter ws a → Gives (parse.alter a) (λ x rest. IsStatement 64 x ws rest)
 unfolding parse.alter parse.alter_table parse.alter_domain
 gives_alter t = gives_eat k.Table tt _ _
     (λ c. gives_then gives_object_name (λ o b is. gives_then gives_alter_table_action (λ act rest h. gives_some (alter_table t c is h))))
     (λ e. rw e (gives_then (gives_expect k.Domain tt) (λ _ b c. gives_then gives_object_name (λ o d is. gives_then gives_alter_domain_action (λ act rest h. gives_some (alter_domain t c is h))))))
 
-gives_drop_object : {kind : DropKind} {ws a b : List Word} → Token k.Drop ws a → IsDropKind kind a b → Gives (parse.drop_object kind b) (λ x rest. IsStatement x ws rest)
+gives_drop_object : {kind : DropKind} {ws a b : List Word} → Token k.Drop ws a → IsDropKind kind a b → Gives (parse.drop_object kind b) (λ x rest. IsStatement 64 x ws rest)
 unfolding parse.drop_object
 gives_drop_object t kd = gives_then gives_object_name (λ o c is. gives_then gives_behaviour (λ b rest how. gives_some (drop_object t kd is how)))
 
-gives_drop : {ws a : List Word} → Token k.Drop ws a → (kind : Kind) → peek a ≡ kind → Gives (parse.drop_by kind a) (λ x rest. IsStatement x ws rest)
+gives_drop : {ws a : List Word} → Token k.Drop ws a → (kind : Kind) → peek a ≡ kind → Gives (parse.drop_by kind a) (λ x rest. IsStatement 64 x ws rest)
 unfolding parse.drop_schema
 gives_drop t k.Role e = gives_then gives_identifier (λ n rest is. gives_some (drop_role t (token_next k.Role tt e) is))
 gives_drop t k.Schema e = gives_then gives_identifier (λ n c is. gives_then gives_behaviour (λ b rest how. gives_some (drop_schema t (token_next k.Schema tt e) is how)))
@@ -235,7 +234,7 @@ gives_drop t k.Procedure e = gives_drop_object t (procedure (token_next k.Proced
 gives_drop t k.Routine e = gives_drop_object t (routine (token_next k.Routine tt e))
 gives_drop t _ e = gives_none
 
-gives_grant : {ws a : List Word} → Token k.Grant ws a → Gives (parse.grant a) (λ x rest. IsStatement x ws rest)
+gives_grant : {ws a : List Word} → Token k.Grant ws a → Gives (parse.grant a) (λ x rest. IsStatement 64 x ws rest)
 unfolding parse.grant parse.grant_roles parse.grant_privileges
 gives_grant {a = a} t = gives_if (names_then k.To a)
     (λ _. gives_then (identifiers_parse.sound a) (λ rs b r. gives_then (gives_expect k.To tt) (λ _ c o. gives_then (identifiers_parse.sound c) (λ gs d m.
@@ -243,12 +242,12 @@ gives_grant {a = a} t = gives_if (names_then k.To a)
     (λ _. gives_then gives_privileges_on (λ on b is. gives_then (gives_expect k.To tt) (λ _ c o. gives_then (grantees_parse.sound c) (λ gs d m.
     gives_then (gives_with_option k.Grant tt) (λ w e wo. gives_then gives_granted_by (λ by rest g. gives_some (grant_privileges t is o m wo g)))))))
 
-gives_revoke_roles : {x : Bool} {ws a b : List Word} → Token k.Revoke ws a → IsOptionFor k.Admin x a b → Gives (parse.revoke_roles x b) (λ s rest. IsStatement s ws rest)
+gives_revoke_roles : {x : Bool} {ws a b : List Word} → Token k.Revoke ws a → IsOptionFor k.Admin x a b → Gives (parse.revoke_roles x b) (λ s rest. IsStatement 64 s ws rest)
 unfolding parse.revoke_roles
 gives_revoke_roles {b = b} t op = gives_then (identifiers_parse.sound b) (λ rs c r. gives_then (gives_expect k.From tt) (λ _ d o. gives_then (identifiers_parse.sound d) (λ gs e m.
     gives_then gives_granted_by (λ by f g. gives_then gives_behaviour (λ how rest h. gives_some (revoke_roles t op r o m g h))))))
 
-gives_revoke_privileges : {ws a : List Word} → Token k.Revoke ws a → Gives (parse.revoke_privileges a) (λ s rest. IsStatement s ws rest)
+gives_revoke_privileges : {ws a : List Word} → Token k.Revoke ws a → Gives (parse.revoke_privileges a) (λ s rest. IsStatement 64 s ws rest)
 unfolding parse.revoke_privileges
 gives_revoke_privileges t = gives_then (gives_option_for k.Grant tt) (λ x b op. gives_then gives_privileges_on (λ on c is. gives_then (gives_expect k.From tt) (λ _ d o. gives_then (grantees_parse.sound d) (λ gs e m.
     gives_then gives_granted_by (λ by f g. gives_then gives_behaviour (λ how rest h. gives_some (revoke_privileges t op is o m g h)))))))
@@ -257,7 +256,7 @@ admin_option_parts : (ws : List Word) → sees_admin_option ws ≡ true → (see
 unfolding sees_admin_option
 admin_option_parts ws e = and_parts (sees k.Admin ws) (sees k.Option (next ws)) e
 
-gives_revoke : {ws a : List Word} → Token k.Revoke ws a → Gives (parse.revoke a) (λ s rest. IsStatement s ws rest)
+gives_revoke : {ws a : List Word} → Token k.Revoke ws a → Gives (parse.revoke a) (λ s rest. IsStatement 64 s ws rest)
 unfolding parse.revoke parse.revoke_admin_option
 gives_revoke {a = a} t = gives_if (names_then k.From a)
     (λ _. gives_revoke_roles t whole)
@@ -265,7 +264,7 @@ gives_revoke {a = a} t = gives_if (names_then k.From a)
     (λ e. let p = admin_option_parts a e in gives_then (gives_expect k.For tt) (λ _ b f. gives_revoke_roles t (option_for (token_seen k.Admin tt p.0) (token_seen k.Option tt p.1) f)))
     (λ _. gives_revoke_privileges t))
 
-statement_sound_by : (ws : List Word) (kind : Kind) → peek ws ≡ kind → Gives (parse.statement_by kind ws) (λ x rest. IsStatement x ws rest)
+statement_sound_by : (ws : List Word) (kind : Kind) → peek ws ≡ kind → Gives (parse.statement_by kind ws) (λ x rest. IsStatement 64 x ws rest)
 unfolding parse.set parse.create parse.drop
 statement_sound_by ws k.Connect e = gives_connect (token_next k.Connect tt e)
 statement_sound_by ws k.Disconnect e = gives_then gives_literal_name (λ n rest is. gives_some (disconnect (token_next k.Disconnect tt e) is))
@@ -278,21 +277,21 @@ statement_sound_by ws k.Revoke e = gives_revoke (token_next k.Revoke tt e)
 statement_sound_by ws k.Select e = gives_then (gives_info_query (token_next k.Select tt e)) (λ q rest is. gives_some (select is))
 statement_sound_by ws _ e = gives_none
 
-pub statement_sound : (ws : List Word) → Gives (parse.statement ws) (λ x rest. IsStatement x ws rest)
+pub statement_sound : (ws : List Word) → Gives (parse.statement ws) (λ x rest. IsStatement 64 x ws rest)
 unfolding parse.statement
 statement_sound ws = statement_sound_by ws (peek ws) refl
 
 -- ---- whole texts
 
 -- what is read to the end of the words is spelled by them
-pub found : (ws : List Word) (x : Statement) → parse.statement ws ≡ Some (x, []) → IsStatement x ws []
+pub found : (ws : List Word) (x : Statement) → parse.statement ws ≡ Some (x, []) → IsStatement 64 x ws []
 found ws x h = (statement_sound ws).given x [] h
 
 -- what all the words spell is read
-pub must : (ws : List Word) (x : Statement) → IsStatement x ws [] → parse.statement ws ≡ Some (x, [])
+pub must : (ws : List Word) (x : Statement) → IsStatement 64 x ws [] → parse.statement ws ≡ Some (x, [])
 must ws x r = statement_at x ws [] r (record { below = lit< tt }) (record { below = lit< tt }) (record { below = lit< tt })
 
-pub only : (ws : List Word) (a b : Statement) → IsStatement a ws [] → IsStatement b ws [] → a ≡ b
+pub only : (ws : List Word) (a b : Statement) → IsStatement 64 a ws [] → IsStatement 64 b ws [] → a ≡ b
 only ws a b r s = (some_pair_parts a b [] [] (sym (must ws a r) ∙ must ws b s)).0
 
 no_words : (ws : List Word) → length ws ≡ 0 → ws ≡ []
@@ -302,10 +301,10 @@ no_words (w ∷ ws) h = absurd (omega arith)
 pub at_end : {ws start left : List Word} {x : Statement} → start ≡ ws → parse.statement start ≡ Some (x, left) → length left ≡ 0 → parse.statement ws ≡ Some (x, [])
 at_end {ws} {start} {left} {x} s h z = ap parse.statement (sym s) ∙ h ∙ ap (λ l. Some (x, l)) (no_words left z)
 
-pub not_at_end : {ws start left : List Word} {x : Statement} → start ≡ ws → parse.statement start ≡ Some (x, left) → (length left ≡ 0 → ⊥) → (o : Statement) → IsStatement o ws [] → ⊥
+pub not_at_end : {ws start left : List Word} {x : Statement} → start ≡ ws → parse.statement start ≡ Some (x, left) → (length left ≡ 0 → ⊥) → (o : Statement) → IsStatement 64 o ws [] → ⊥
 not_at_end {ws} {start} {left} {x} s h z o r = z (ap length (some_pair_parts x o left [] (sym (ap parse.statement (sym s) ∙ h) ∙ must ws o r)).1)
 
-pub never_read : {ws start : List Word} (left : List Word) (error : GrammarError) → start ≡ ws → Reads (parse.statement start) (Err error) left → error ≡ Syntax → (x : Statement) → IsStatement x ws [] → ⊥
+pub never_read : {ws start : List Word} (left : List Word) (error : GrammarError) → start ≡ ws → Reads (parse.statement start) (Err error) left → error ≡ Syntax → (x : Statement) → IsStatement 64 x ws [] → ⊥
 never_read {ws} left Syntax s h is x r = let n = ap parse.statement (sym s) ∙ h in let m = must ws x r in cc
 never_read left NotInProfile s h is x r = cc
 never_read left Memory s h is x r = cc

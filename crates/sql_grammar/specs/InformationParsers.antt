@@ -1,5 +1,5 @@
 -- Reading a SELECT from a view of the Information Schema.
-use Rattle.std.specs.Prelude.{ℕ, Bool, List, [], Option, Some, None, if◌then◌else◌}
+use Rattle.std.specs.Prelude.{List, [], if◌then◌else◌}
 use Rattle.sql_tree.specs.declared.statement.InfoColumns.{InfoColumns}
 use Rattle.sql_tree.specs.declared.statement.InfoColumns.TheVariants as columns
 use Rattle.sql_tree.specs.declared.statement.InfoQuery.{InfoQuery}
@@ -8,9 +8,8 @@ use Rattle.sql_tree.specs.declared.statement.InfoTest.TheVariants as tests
 use Rattle.sql_tree.specs.declared.statement.InfoValue.{InfoValue}
 use Rattle.sql_tree.specs.declared.statement.InfoValue.TheVariants as values
 use Rattle.sql_words.specs.declared.kind.Kind.TheVariants as k
-use Rattle.sql_words.specs.declared.word.Word.{Word}
 use Rattle.sql_phrases.specs.Reading.{sees}
-use Rattle.sql_phrases.specs.Parsers.{Outcome, Parser, and_then, ◌>>=◌, ◌>>◌, ◌<$>◌, pure, refuse, skip, eat, expect, text, separated}
+use Rattle.sql_phrases.specs.Parsers.{Parser, ◌>>=◌, ◌>>◌, ◌<$>◌, pure, eat, expect, text, separated}
 use Rattle.sql_phrases.specs.NameParsers.{identifier, identifiers}
 
 unfoldable pub info_value : Parser InfoValue

@@ -1,5 +1,5 @@
 -- SELECT from a view of the Information Schema.
-use Rattle.std.specs.Prelude.{◌≡◌, ℕ, List, []}
+use Rattle.std.specs.Prelude.{ℕ, List, []}
 use Rattle.sql_tree.specs.declared.statement.InfoColumns.{InfoColumns}
 use Rattle.sql_tree.specs.declared.statement.InfoColumns.TheVariants as columns
 use Rattle.sql_tree.specs.declared.statement.InfoQuery.{InfoQuery}

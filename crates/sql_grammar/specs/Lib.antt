@@ -8,3 +8,4 @@ pub mod AlterRules
 pub mod AlterParsers
 pub mod InformationRules
 pub mod InformationParsers
+pub mod Laws

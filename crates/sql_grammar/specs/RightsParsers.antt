@@ -1,5 +1,5 @@
 -- Reading privileges, their targets, grantees and grantors.
-use Rattle.std.specs.Prelude.{ℕ, Bool, true, false, ◌&&◌, List, [], ◌∷◌, Option, Some, None, if◌then◌else◌}
+use Rattle.std.specs.Prelude.{Bool, true, false, ◌&&◌, List, [], ◌∷◌, Option, Some, None, if◌then◌else◌}
 use Rattle.sql_tree.specs.declared.rights.Action.{Action}
 use Rattle.sql_tree.specs.declared.rights.Action.TheVariants as actions
 use Rattle.sql_tree.specs.declared.rights.Grantee.{Grantee}
@@ -18,8 +18,8 @@ use Rattle.sql_words.specs.Kinds.{kind_of, is_name, same_kind}
 use Rattle.sql_words.specs.declared.kind.Kind.{Kind}
 use Rattle.sql_words.specs.declared.kind.Kind.TheVariants as k
 use Rattle.sql_words.specs.declared.word.Word.{Word}
-use Rattle.sql_phrases.specs.Reading.{peek, next, sees}
-use Rattle.sql_phrases.specs.Parsers.{Outcome, Parser, and_then, ◌>>=◌, ◌>>◌, ◌<$>◌, pure, refuse, skip, eat, expect, separated, optional}
+use Rattle.sql_phrases.specs.Reading.{peek, next}
+use Rattle.sql_phrases.specs.Parsers.{Parser, ◌>>=◌, ◌>>◌, ◌<$>◌, pure, refuse, skip, eat, expect, separated, optional}
 use Rattle.sql_phrases.specs.NameParsers.{identifier, object_name, columns, sees_name}
 use Rattle.sql_grammar.specs.RightsRules.{fit}
 

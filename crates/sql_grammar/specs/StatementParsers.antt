@@ -1,5 +1,5 @@
 -- Reading statements.
-use Rattle.std.specs.Prelude.{ℕ, Bool, true, false, ◌&&◌, List, [], ◌∷◌, Option, Some, None, if◌then◌else◌}
+use Rattle.std.specs.Prelude.{Bool, true, false, ◌&&◌, List, [], Option, if◌then◌else◌}
 use Rattle.sql_tree.specs.declared.rights.Grantor.{Grantor}
 use Rattle.sql_tree.specs.declared.statement.DropKind.{DropKind}
 use Rattle.sql_tree.specs.declared.statement.DropKind.TheVariants as drops
@@ -13,7 +13,7 @@ use Rattle.sql_words.specs.declared.kind.Kind.{Kind}
 use Rattle.sql_words.specs.declared.kind.Kind.TheVariants as k
 use Rattle.sql_words.specs.declared.word.Word.{Word}
 use Rattle.sql_phrases.specs.Reading.{peek, next, sees}
-use Rattle.sql_phrases.specs.Parsers.{Outcome, Parser, and_then, ◌>>=◌, ◌>>◌, ◌<$>◌, pure, refuse, skip, eat, expect, separated, optional}
+use Rattle.sql_phrases.specs.Parsers.{Parser, ◌>>=◌, ◌>>◌, ◌<$>◌, pure, refuse, skip, eat, expect, separated, optional}
 use Rattle.sql_phrases.specs.NameParsers.{identifier, literal_name, identifiers, object_name}
 use Rattle.sql_grammar.specs.RightsParsers.{behaviour, grantor_after, granted_by, grantee, privileges_on, with_option, option_for, names_then}
 use Rattle.sql_grammar.specs.AlterParsers.{alter_table_action, alter_domain_action}

@@ -4,10 +4,12 @@
 mod alter;
 mod creation;
 mod information;
+mod laws;
 mod profile;
 mod rights;
 mod statements;
 
+pub use laws::brackets_are_counted;
 pub use sql_phrases::GrammarError;
 pub use statements::{statement, unambiguous};
 

@@ -425,7 +425,8 @@ fn read(alloc: Global, words: &mut Reader<'_>) -> Result<Statement, GrammarError
 /// Words that begin as a statement of SQL:2003 that the profile leaves out give `NotInProfile`, whatever follows; other words that spell no
 /// statement give `Syntax`. Each word is read once, but for the list of names after GRANT and REVOKE, which is read twice.
 ///
-/// The grammar lacks what holds expressions and queries so far: CHECK, CREATE DOMAIN, CREATE VIEW, CREATE ASSERTION and routines give `Syntax`.
+/// More than 64 brackets open at one word give `Syntax`; a CASE and a BEGIN are open up to their END. So do the elements of CREATE SCHEMA,
+/// which the grammar lacks so far.
 pub fn statement(alloc: Global, words: &Vec<Word>) -> Result<Statement, GrammarError>
     ensures found { IfOk result (λ s. grammar.Grammar words.now.items s) }
     ensures only { IfOk result (λ s. (other : Statement) → grammar.Grammar words.now.items other → other ≡ s) }

@@ -1,4 +1,4 @@
-use Rattle.std.proofs.Common.{◌≡◌, length, ℕ}
+use Rattle.std.proofs.Common.{◌≡◌, length}
 use Rattle.sql_grammar.specs.RightsParsers.{names_then}
 use Rattle.sql_grammar.proofs.rights.names_then.Given as goal
 
