@@ -1,0 +1,9 @@
+//! Which descriptors stand: whether a need is met, whether a descriptor is supported by others, and which
+//! descriptors of a catalogue survive by finite chains of support.
+#![tactic(auto)]
+
+mod loops;
+mod meeting;
+mod standing;
+
+pub use meeting::{Needs, met, met_by};
