@@ -106,7 +106,9 @@ fn compare_column(x: &Option<Name>, key: Option<&Name>) -> Ordering
 pub fn compare_need(x: &Need, key: NeedKey<'_>) -> Ordering
     ensures { result ≡ need_cmp x.now (need_of key.entry) }
 {
-    x.action.cmp(&key.action).then_with(|| {
-        compare_path(&x.on, key.on).then_with(|| compare_column(&x.column, key.column))
-    })
+    let on = compare_path(&x.on, key.on);
+    let column = compare_column(&x.column, key.column);
+    let rest = on.then(column);
+    let action = x.action.cmp(&key.action);
+    action.then(rest)
 }

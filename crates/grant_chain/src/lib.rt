@@ -5,5 +5,8 @@
 mod loops;
 mod meeting;
 mod standing;
+mod support;
+mod system;
 
 pub use meeting::{Needs, met, met_by};
+pub use support::supported;

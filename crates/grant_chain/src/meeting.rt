@@ -20,6 +20,7 @@ use role_graph::{Actor, Walk};
 use sql_tree::{Action, Items, Name, Object};
 
 /// A right or an admin option whose grantee `a` reaches.
+#[derive(Drop)]
 struct Reached<'a> {
     a: Actor<'a>,
 }
@@ -207,6 +208,7 @@ fn all_met(
 }
 
 /// A schema of this name for whose owner these needs are met.
+#[derive(Drop)]
 struct MeetingSchema<'a> {
     schema: &'a Name,
     needs: Needs<'a>,

@@ -93,6 +93,7 @@ fn object_stands(
 }
 
 /// A column of this name.
+#[derive(Drop)]
 struct ColumnNamed<'a> {
     name: &'a Name,
 }

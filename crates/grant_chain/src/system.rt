@@ -6,7 +6,7 @@ ghost use Rattle.sql_tree.specs.declared.object.Object.{Object};
 ghost use Rattle.cat_items.specs.declared.need.Auth.TheVariants.{Named};
 ghost use Rattle.cat_items.specs.Reach.{Has};
 ghost use Rattle.cat_items.specs.Rights.{path_of};
-ghost use Rattle.cat_items.specs.SystemRights.{IsSystemRow, IsTableRow, IsUpdatable, IsViewRow, MetOnBase, MetOnBaseColumn, SystemGrants, security_of};
+ghost use Rattle.cat_items.specs.SystemRights.{IsRoutineRow, IsSystemRow, IsTableRow, IsUpdatable, IsViewRow, MetOnBase, MetOnBaseColumn, SystemGrants, security_of};
 ghost use Rattle.role_graph.specs.Marked.{AreMarksOf, counted};
 ghost use Rattle.role_graph.specs.Roles.{IsRoomFor};
 
@@ -98,6 +98,7 @@ fn met_on_base_column(
 }
 
 /// A column of a view that can be changed by an action on its base.
+#[derive(Drop)]
 struct Updatable<'a> {
     owner: &'a Name,
     view: &'a View,
@@ -218,6 +219,7 @@ fn is_whole(need: &Need, action: Action) -> bool
 }
 
 /// An object, in this schema, on which the system grants this to the owner.
+#[derive(Drop)]
 struct SystemRow<'a> {
     schema: &'a Name,
     owner: &'a Name,
@@ -291,15 +293,42 @@ fn any_row(
         || any_met(c, marks, marks, walk, Part::Routine(key), row)
 }
 
+/// Whether an object is one on which the system grants this to the owner.
+fn is_system_row(
+    c: &Catalogue,
+    marks: Option<&Marks>,
+    walk: &mut Walk,
+    row: &SystemRow<'_>,
+) -> bool
+    requires room { IsRoomFor walk.old c.now.items }
+    requires marks { AreMarksOf (length c.now.items) (option_copied marks) }
+    ensures answer { IsTrue result ↔ Has (counted c.now.items (option_copied marks.entry)) (IsSystemRow row.now.grantable (counted c.now.items (option_copied marks.entry)) row.now.schema.now (Named row.now.owner.now) row.now.need.now) }
+    ensures room { walk.new ≡ walk.old }
+{
+    match object_at(PathKey::Path(&row.need.on)) {
+        None => false,
+        Some(key) => any_row(c, marks, walk, key, row),
+    }
+}
+
+/// Whether an authorization is the user or role of this name.
+fn is_named(a: &Auth, name: &Name) -> bool
+    ensures { IsTrue result ↔ (a.now ≡ Named name.now) }
+{
+    match a {
+        Auth::Named(other) => other.same(name),
+        _ => false,
+    }
+}
+
 /// A schema whose owner is the grantee, and in which the system grants this.
+#[derive(Drop)]
 struct SystemSchema<'a> {
     right: &'a Right,
-    key: ObjectKey<'a>,
     grantable: bool,
 }
 
 impl<'a> Condition for SystemSchema<'a> {
-    ghost use Rattle.cat_items.specs.Rights.{path_of};
     ghost use Rattle.cat_items.specs.SystemRights.{IsSystemSchema};
 
     ghost holds = { λ t s x. IsSystemSchema t.grantable s t.right.now x };
@@ -314,10 +343,31 @@ impl<'a> Condition for SystemSchema<'a> {
                     need: &self.right.need,
                     grantable: self.grantable,
                 };
-                is_named(&self.right.grantee, &schema.owner)
-                    && any_row(c, marks, walk, self.key, &row)
+                is_named(&self.right.grantee, &schema.owner) && is_system_row(c, marks, walk, &row)
             }
             _ => false,
+        }
+    }
+}
+
+/// Whether the system grants a right, held or with grant option.
+pub fn system_grants(
+    c: &Catalogue,
+    marks: Option<&Marks>,
+    walk: &mut Walk,
+    right: &Right,
+    grantable: bool,
+) -> bool
+    requires room { IsRoomFor walk.old c.now.items }
+    requires marks { AreMarksOf (length c.now.items) (option_copied marks) }
+    ensures answer { IsTrue result ↔ SystemGrants grantable (counted c.now.items (option_copied marks.entry)) right.now }
+    ensures room { walk.new ≡ walk.old }
+{
+    match object_at(PathKey::Path(&right.need.on)) {
+        None => false,
+        Some(key) => {
+            let test = SystemSchema { right, grantable };
+            any_met(c, marks, marks, walk, Part::Schema(key.schema), &test)
         }
     }
 }
