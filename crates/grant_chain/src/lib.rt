@@ -4,9 +4,13 @@
 
 mod loops;
 mod meeting;
+mod rounds;
 mod standing;
 mod support;
 mod system;
+#[cfg(test)]
+mod tests;
 
 pub use meeting::{Needs, met, met_by};
+pub use rounds::survivors;
 pub use support::supported;

@@ -50,18 +50,14 @@ pub fn any_in(c: &Catalogue, marks: Option<&Marks>, part: Part<'_>) -> bool
 }
 
 /// Whether an item of a part that counts passes a test.
-pub fn any_match<T: Matches>(
-    c: &Catalogue,
-    marks: Option<&Marks>,
-    part: Part<'_>,
-    test: &T,
-) -> bool
+pub fn any_match<T: Matches>(c: &Catalogue, marks: Option<&Marks>, part: Part<'_>, test: &T) -> bool
     requires { AreMarksOf (length c.now.items) (option_copied marks) }
     ensures { IsTrue result ↔ Has (counted c.now.items (option_copied marks.entry)) (λ y. IsIn part.entry y × T.fits test.now y) }
 {
+    let items = c.items();
     let all = places(c, part);
     for at in all.start..all.end {
-        if is_counted(marks, at) && test.matches(&c.items()[at]) {
+        if is_counted(marks, at) && test.matches(&items[at]) {
             return true;
         }
     }
@@ -83,9 +79,10 @@ pub fn any_met<T: Condition>(
     ensures answer { IsTrue result ↔ Has (counted c.now.items (option_copied among.entry)) (λ y. IsIn part.entry y × T.holds test.now (counted c.now.items (option_copied marks.entry)) y) }
     ensures room { walk.new ≡ walk.old }
 {
+    let items = c.items();
     let all = places(c, part);
     for at in all.start..all.end {
-        if is_counted(among, at) && test.is_met(c, marks, walk, &c.items()[at]) {
+        if is_counted(among, at) && test.is_met(c, marks, walk, &items[at]) {
             return true;
         }
     }

@@ -79,7 +79,14 @@ pub fn has_admin(
     ensures answer { IsTrue result ↔ Has (counted c.now.items (option_copied marks.entry)) (IsAdminFor (counted c.now.items (option_copied marks.entry)) (auth_of a.entry) (role.now ∷ [])) }
     ensures room { walk.new ≡ walk.old }
 {
-    any_met(c, marks, marks, walk, Part::AdminOptions(role), &Reached { a })
+    any_met(
+        c,
+        marks,
+        marks,
+        walk,
+        Part::AdminOptions(role),
+        &Reached { a },
+    )
 }
 
 /// Whether a need is met for `a` by the items at marked places, or met grantably. It takes no memory.

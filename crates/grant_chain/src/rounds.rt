@@ -1,7 +1,8 @@
 //! The survivors of a catalogue, by rounds.
 
-ghost use Rattle.std.specs.Prelude.{◌≡◌, ◌<◌, ◌≤◌, ◌+◌, false, not, length, count_by, take, IfOk, IsTrue};
+ghost use Rattle.std.specs.Prelude.{◌≡◌, ◌<◌, ◌≤◌, false, not, length, count_by, IfOk, IsTrue};
 ghost use Rattle.finite_chains.specs.Chains.{HasSurvivors};
+ghost use Rattle.cat_items.specs.Catalogues.{IsInOrder};
 ghost use Rattle.cat_items.specs.Supported.{Supported};
 ghost use Rattle.cat_items.specs.Survivors.{AreSurvivors};
 ghost use Rattle.role_graph.specs.Marked.{marked};
@@ -34,12 +35,14 @@ fn round(c: &Catalogue, marks: &mut Marks, walk: &mut Walk) -> bool
     requires marks { length marks.old ≡ length c.now.items }
     ensures marks { length marks.new ≡ length c.now.items }
     ensures sound { Survive (Supported c.now.items) c.now.items marks.old → Survive (Supported c.now.items) c.now.items marks.new }
+    ensures kept { count_by not marks.new ≤ count_by not marks.old }
     ensures more { IsTrue result → count_by not marks.new < count_by not marks.old }
     ensures closed { result ≡ false → HaveClosed (Supported c.now.items) c.now.items marks.new }
     ensures room { walk.new ≡ walk.old }
 {
+    let items = c.items();
     let mut more = false;
-    for at in 0..c.items().len() {
+    for at in 0..items.len() {
         if try_mark(c, marks, walk, at) {
             more = true;
         }
@@ -55,13 +58,17 @@ fn close(c: &Catalogue, marks: &mut Marks, walk: &mut Walk)
     ensures marks { length marks.new ≡ length c.now.items }
     ensures survivors { HasSurvivors (Supported c.now.items) c.now.items (marked c.now.items marks.new) }
 {
-    while round(c, marks, walk) {}
+    let mut more = true;
+    while more {
+        more = round(c, marks, walk);
+    }
 }
 
 /// Copies the items at marked places.
 fn marked_items(alloc: Global, c: &Catalogue, marks: &Marks) -> Result<Vec<Item>, AllocError>
     requires { length marks.now ≡ length c.now.items }
-    ensures { IfOk result (λ kept. kept.items ≡ marked c.now.items marks.now) }
+    ensures items { IfOk result (λ kept. kept.items ≡ marked c.now.items marks.now) }
+    ensures order { IfOk result (λ kept. IsInOrder kept.items) }
 {
     let items = c.items();
     let mut kept = Vec::new(alloc);

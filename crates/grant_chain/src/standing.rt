@@ -112,12 +112,7 @@ impl<'a> Matches for ColumnNamed<'a> {
 }
 
 /// Whether a column of this name of the table or view counts.
-pub fn has_column(
-    c: &Catalogue,
-    marks: Option<&Marks>,
-    object: ObjectKey<'_>,
-    name: &Name,
-) -> bool
+pub fn has_column(c: &Catalogue, marks: Option<&Marks>, object: ObjectKey<'_>, name: &Name) -> bool
     requires { AreMarksOf (length c.now.items) (option_copied marks) }
     ensures { IsTrue result ↔ Has (counted c.now.items (option_copied marks.entry)) (IsColumn (path_of (object_of object.entry)) name.now) }
 {

@@ -1,12 +1,12 @@
 //! Which items are supported.
 
-ghost use Rattle.std.specs.Prelude.{◌≡◌, ◌≢◌, ◌↔◌, ◌×◌, length, IsTrue, Some};
+ghost use Rattle.std.specs.Prelude.{◌≡◌, ◌≢◌, ◌↔◌, length, IsTrue, Some};
 ghost use Rattle.std.specs.Option.{option_copied};
 ghost use Rattle.sql_tree.specs.declared.rights.Action.TheVariants.{Admin};
 ghost use Rattle.cat_items.specs.declared.item.Item.TheVariants as item;
 ghost use Rattle.cat_items.specs.Reach.{Has};
-ghost use Rattle.cat_items.specs.Rights.{IsSchema};
-ghost use Rattle.cat_items.specs.Supported.{IsGrantee, IsHeld, IsRoleAuth, Keeps, MayGrant, MayGrantRole, RestsOnDomain, RightRests, RoleGrantRests, RoutineRests, Supported};
+ghost use Rattle.cat_items.specs.Rights.{IsBaseTable};
+ghost use Rattle.cat_items.specs.Supported.{HasColumns, IsGrantee, IsHeld, IsRoleAuth, Keeps, MayGrant, MayGrantRole, RestsOnDomain, RightRests, RoleGrantRests, RoutineRests, Supported};
 ghost use Rattle.cat_items.specs.SystemRights.{security_of};
 ghost use Rattle.role_graph.specs.Marked.{AreMarksOf, counted, marked};
 ghost use Rattle.role_graph.specs.Roles.{IsRoomFor};
@@ -22,7 +22,7 @@ use cat_items::{
     Right, RoleGrant, Routine,
 };
 use role_graph::{Actor, Walk};
-use sql_tree::{Action, Name, Object, Security};
+use sql_tree::{Action, Items, Name, Object, Security};
 
 /// Whether what a column of a schema rests on counts, where it is based on a domain.
 fn rests_on_domain(
@@ -75,12 +75,7 @@ impl<'a> Condition for Keeping<'a> {
 }
 
 /// Whether the table has a column, whether or not it counts, that keeps it.
-fn has_keeping_column(
-    c: &Catalogue,
-    marks: Option<&Marks>,
-    walk: &mut Walk,
-    table: &Object,
-) -> bool
+fn has_keeping_column(c: &Catalogue, marks: Option<&Marks>, walk: &mut Walk, table: &Object) -> bool
     requires room { IsRoomFor walk.old c.now.items }
     requires marks { AreMarksOf (length c.now.items) (option_copied marks) }
     ensures answer { IsTrue result ↔ Has c.now.items (Keeps (counted c.now.items (option_copied marks.entry)) table.now) }
@@ -127,21 +122,28 @@ fn domain_check_rests(
         && owner_meets(c, marks, walk, &check.name.schema, needs)
 }
 
+/// Whether a base table counts, and these columns of it.
+fn table_has_columns(
+    c: &Catalogue,
+    marks: Option<&Marks>,
+    table: &Object,
+    columns: &Items<Name>,
+) -> bool
+    requires { AreMarksOf (length c.now.items) (option_copied marks) }
+    ensures { IsTrue result ↔ (Has (counted c.now.items (option_copied marks.entry)) (IsBaseTable table.now) × HasColumns (counted c.now.items (option_copied marks.entry)) table.now columns.now) }
+{
+    any_in(c, marks, Part::Table(table.into())) && has_columns(c, marks, table, columns)
+}
+
 fn key_rests(c: &Catalogue, marks: Option<&Marks>, key: &Key) -> bool
     requires { AreMarksOf (length c.now.items) (option_copied marks) }
     ensures { IsTrue result ↔ Supported c.now.items (counted c.now.items (option_copied marks.entry)) (item.Key key.now) }
 {
     any_in(c, marks, Part::Schema(&key.name.schema))
-        && any_in(c, marks, Part::Table((&key.table).into()))
-        && has_columns(c, marks, &key.table, &key.columns)
+        && table_has_columns(c, marks, &key.table, &key.columns)
 }
 
-fn foreign_rests(
-    c: &Catalogue,
-    marks: Option<&Marks>,
-    walk: &mut Walk,
-    foreign: &Foreign,
-) -> bool
+fn foreign_rests(c: &Catalogue, marks: Option<&Marks>, walk: &mut Walk, foreign: &Foreign) -> bool
     requires room { IsRoomFor walk.old c.now.items }
     requires marks { AreMarksOf (length c.now.items) (option_copied marks) }
     ensures answer { IsTrue result ↔ Supported c.now.items (counted c.now.items (option_copied marks.entry)) (item.Foreign foreign.now) }
@@ -151,10 +153,8 @@ fn foreign_rests(
         table: &foreign.target,
         columns: &foreign.target_columns,
     };
-    any_in(c, marks, Part::Table((&foreign.table).into()))
-        && has_columns(c, marks, &foreign.table, &foreign.columns)
-        && any_in(c, marks, Part::Table((&foreign.target).into()))
-        && has_columns(c, marks, &foreign.target, &foreign.target_columns)
+    table_has_columns(c, marks, &foreign.table, &foreign.columns)
+        && table_has_columns(c, marks, &foreign.target, &foreign.target_columns)
         && any_in(c, marks, Part::Key((&foreign.key).into()))
         && owner_meets(c, marks, walk, &foreign.name.schema, needs)
 }
@@ -165,17 +165,17 @@ fn check_rests(c: &Catalogue, marks: Option<&Marks>, walk: &mut Walk, check: &Ch
     ensures answer { IsTrue result ↔ Supported c.now.items (counted c.now.items (option_copied marks.entry)) (item.Check check.now) }
     ensures room { walk.new ≡ walk.old }
 {
-    any_in(c, marks, Part::Table((&check.table).into()))
-        && has_columns(c, marks, &check.table, &check.columns)
-        && owner_meets(c, marks, walk, &check.name.schema, Needs::Listed(&check.needs))
+    table_has_columns(c, marks, &check.table, &check.columns)
+        && owner_meets(
+            c,
+            marks,
+            walk,
+            &check.name.schema,
+            Needs::Listed(&check.needs),
+        )
 }
 
-fn routine_rests(
-    c: &Catalogue,
-    marks: Option<&Marks>,
-    walk: &mut Walk,
-    routine: &Routine,
-) -> bool
+fn routine_rests(c: &Catalogue, marks: Option<&Marks>, walk: &mut Walk, routine: &Routine) -> bool
     requires room { IsRoomFor walk.old c.now.items }
     requires marks { AreMarksOf (length c.now.items) (option_copied marks) }
     ensures answer { IsTrue result ↔ RoutineRests (counted c.now.items (option_copied marks.entry)) routine.now (security_of routine.now.body) }
@@ -259,7 +259,14 @@ fn may_grant(
         Auth::Public => false,
         Auth::Named(name) => {
             authorization_stands(c, marks, name)
-                && met_by(c, marks, walk, Actor::Named(name), (&right.need).into(), true)
+                && met_by(
+                    c,
+                    marks,
+                    walk,
+                    Actor::Named(name),
+                    (&right.need).into(),
+                    true,
+                )
         }
     }
 }

@@ -1,9 +1,10 @@
 //! What the system grants to the owner of a schema.
 
-ghost use Rattle.std.specs.Prelude.{◌≡◌, ◌↔◌, ◌×◌, length, IsTrue, None, slice_get};
+ghost use Rattle.std.specs.Prelude.{◌≡◌, ◌↔◌, length, IsTrue, None, slice_get};
 ghost use Rattle.std.specs.Option.{option_copied};
 ghost use Rattle.sql_tree.specs.declared.object.Object.{Object};
 ghost use Rattle.cat_items.specs.declared.need.Auth.TheVariants.{Named};
+ghost use Rattle.cat_items.specs.Keys.{object_of};
 ghost use Rattle.cat_items.specs.Reach.{Has};
 ghost use Rattle.cat_items.specs.Rights.{path_of};
 ghost use Rattle.cat_items.specs.SystemRights.{IsRoutineRow, IsSystemRow, IsTableRow, IsUpdatable, IsViewRow, MetOnBase, MetOnBaseColumn, SystemGrants, security_of};
@@ -257,7 +258,16 @@ impl<'a> Condition for SystemRow<'a> {
             Item::View(view) => {
                 let view = view.get();
                 self.is_on(&view.view)
-                    && is_view_row(c, marks, walk, self.owner, view, action, column, self.grantable)
+                    && is_view_row(
+                        c,
+                        marks,
+                        walk,
+                        self.owner,
+                        view,
+                        action,
+                        column,
+                        self.grantable,
+                    )
             }
             Item::Domain(domain) => {
                 self.is_on(&domain.get().domain) && is_whole(self.need, Action::Usage)
@@ -294,12 +304,7 @@ fn any_row(
 }
 
 /// Whether an object is one on which the system grants this to the owner.
-fn is_system_row(
-    c: &Catalogue,
-    marks: Option<&Marks>,
-    walk: &mut Walk,
-    row: &SystemRow<'_>,
-) -> bool
+fn is_system_row(c: &Catalogue, marks: Option<&Marks>, walk: &mut Walk, row: &SystemRow<'_>) -> bool
     requires room { IsRoomFor walk.old c.now.items }
     requires marks { AreMarksOf (length c.now.items) (option_copied marks) }
     ensures answer { IsTrue result ↔ Has (counted c.now.items (option_copied marks.entry)) (IsSystemRow row.now.grantable (counted c.now.items (option_copied marks.entry)) row.now.schema.now (Named row.now.owner.now) row.now.need.now) }
