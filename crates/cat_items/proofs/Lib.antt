@@ -2,6 +2,7 @@ pub mod CatalogueLemmas
 pub mod KeyLemmas
 pub mod Merges
 pub mod OrderLemmas
+pub mod PathLemmas
 pub mod Partings
 pub mod RangeLemmas
 pub mod Rising

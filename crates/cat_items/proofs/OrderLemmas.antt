@@ -40,7 +40,7 @@ same_auth Public Public = refl
 same_auth (Named a) (Named b) = refl
 same_auth a b = refl
 
-same_need : (a b : Need) → need.ghosts.cmp a b ≡ need_cmp a b
+pub same_need : (a b : Need) → need.ghosts.cmp a b ≡ need_cmp a b
 same_need a b =
     ap (λ o. ordering_then o (ordering_then (slice_cmp name_cmp a.on b.on) (option_cmp name_cmp a.column b.column))) (same_action a.action b.action)
 

@@ -21,7 +21,8 @@ use Rattle.cat_items.specs.declared.item.Item.TheVariants as item
 use Rattle.cat_items.specs.declared.ranges.ObjectKind.{ObjectKind}
 use Rattle.cat_items.specs.declared.ranges.ObjectKind.TheVariants as object
 use Rattle.cat_items.specs.declared.ranges.Part.{Part}
-use Rattle.cat_items.specs.declared.ranges.Part.TheVariants.{Objects, RoleAuthorizations, RoleGrants, AdminOptions, Columns, Held, Grantable}
+use Rattle.cat_items.specs.declared.ranges.Part.TheVariants.{Objects, User, Role, Schema, Table, View, Columns, Domain, Key, Routine, RoleAuthorizations, RoleGrants, AdminOptions, Held, Grantable}
+use Rattle.cat_items.specs.Keys.{object_of, need_of}
 use Rattle.cat_items.specs.Order.{name_cmp, object_cmp, need_cmp, action_number, kind_of, key_cmp, item_cmp}
 use Rattle.cat_items.specs.Catalogues.{IsInOrder}
 use Rattle.cat_items.specs.Ranges.{IsRange, IsIn, IsObjectIn, kind_in, number_of, object_place, place_in, schema_in}
@@ -162,17 +163,33 @@ object_tie kind schema x = (
 is_in : (part : Part) (x : Item) → IsTie (place_in part x) ↔ IsIn part x
 unfolding IsTie
 is_in (Objects kind schema) x = object_tie kind schema.now x
+is_in (User name) (item.User n) = same name_cmp nat_list_cmp_total name_cmp-IsAntisymmetric n name.now
+is_in (User name) x = (λ h. absurd h, λ h. absurd h)
+is_in (Role name) (item.Role n) = same name_cmp nat_list_cmp_total name_cmp-IsAntisymmetric n name.now
+is_in (Role name) x = (λ h. absurd h, λ h. absurd h)
+is_in (Schema name) (item.Schema s) = same name_cmp nat_list_cmp_total name_cmp-IsAntisymmetric s.name name.now
+is_in (Schema name) x = (λ h. absurd h, λ h. absurd h)
+is_in (Table key) (item.Table t) = same object_cmp object_laws.total-law object_cmp-is t (object_of key)
+is_in (Table key) x = (λ h. absurd h, λ h. absurd h)
+is_in (View key) (item.View v) = same object_cmp object_laws.total-law object_cmp-is v.view (object_of key)
+is_in (View key) x = (λ h. absurd h, λ h. absurd h)
+is_in (Columns key) (item.Column c) = same object_cmp object_laws.total-law object_cmp-is c.table (object_of key)
+is_in (Columns key) x = (λ h. absurd h, λ h. absurd h)
+is_in (Domain key) (item.Domain d) = same object_cmp object_laws.total-law object_cmp-is d.domain (object_of key)
+is_in (Domain key) x = (λ h. absurd h, λ h. absurd h)
+is_in (Key key) (item.Key k) = same object_cmp object_laws.total-law object_cmp-is k.name (object_of key)
+is_in (Key key) x = (λ h. absurd h, λ h. absurd h)
+is_in (Routine key) (item.Routine r) = same object_cmp object_laws.total-law object_cmp-is r.routine (object_of key)
+is_in (Routine key) x = (λ h. absurd h, λ h. absurd h)
 is_in RoleAuthorizations (item.RoleAuth g) = (λ h. tt, λ h. tt)
 is_in RoleAuthorizations x = (λ h. absurd h, λ h. absurd h)
 is_in (RoleGrants role) (item.RoleAuth g) = same name_cmp nat_list_cmp_total name_cmp-IsAntisymmetric g.role role.now
 is_in (RoleGrants role) x = (λ h. absurd h, λ h. absurd h)
 is_in (AdminOptions role) (item.RoleAdmin g) = same name_cmp nat_list_cmp_total name_cmp-IsAntisymmetric g.role role.now
 is_in (AdminOptions role) x = (λ h. absurd h, λ h. absurd h)
-is_in (Columns table) (item.Column c) = same object_cmp object_laws.total-law object_cmp-is c.table table.now
-is_in (Columns table) x = (λ h. absurd h, λ h. absurd h)
-is_in (Held need) (item.Held r) = same need_cmp need_cmp-total need_cmp-is r.need need.now
+is_in (Held need) (item.Held r) = same need_cmp need_cmp-total need_cmp-is r.need (need_of need)
 is_in (Held need) x = (λ h. absurd h, λ h. absurd h)
-is_in (Grantable need) (item.Grantable r) = same need_cmp need_cmp-total need_cmp-is r.need need.now
+is_in (Grantable need) (item.Grantable r) = same need_cmp need_cmp-total need_cmp-is r.need (need_of need)
 is_in (Grantable need) x = (λ h. absurd h, λ h. absurd h)
 
 -- along the order of items a part's places rise
@@ -203,16 +220,36 @@ first_part R total a b q rest less = by_order (R a b) refl less
     by_order Equal e h = rw (total.congr a b q e) (omega arith)
     by_order Greater e h = absurd (let odd : Greater ≡ Less = h in cc)
 
+-- the same where that part is the whole key
+whole_key : {K : Type 0} (R : K → K → Ordering) → IsTotalOrder R → (a b q : K) → R a b ≡ Less → Rises (R a q) (R b q)
+whole_key R total a b q less = first_part R total a b q Equal (ap (λ o. ordering_then o Equal) less)
+
 -- items of another kind than the part's go by their kinds
 by_kind : (part : Part) (x : Item) → kind_of x ≢ kind_in part → place_in part x ≡ nat_cmp (kind_of x) (kind_in part)
 by_kind (Objects kind schema) x other = there_place (number_of kind) schema.now (kind_of x) (schema_in x) other
+by_kind (User name) (item.User n) other = absurd (other refl)
+by_kind (User name) x other = refl
+by_kind (Role name) (item.Role n) other = absurd (other refl)
+by_kind (Role name) x other = refl
+by_kind (Schema name) (item.Schema s) other = absurd (other refl)
+by_kind (Schema name) x other = refl
+by_kind (Table key) (item.Table t) other = absurd (other refl)
+by_kind (Table key) x other = refl
+by_kind (View key) (item.View v) other = absurd (other refl)
+by_kind (View key) x other = refl
+by_kind (Columns key) (item.Column c) other = absurd (other refl)
+by_kind (Columns key) x other = refl
+by_kind (Domain key) (item.Domain d) other = absurd (other refl)
+by_kind (Domain key) x other = refl
+by_kind (Key key) (item.Key k) other = absurd (other refl)
+by_kind (Key key) x other = refl
+by_kind (Routine key) (item.Routine r) other = absurd (other refl)
+by_kind (Routine key) x other = refl
 by_kind RoleAuthorizations x other = refl
 by_kind (RoleGrants role) (item.RoleAuth g) other = absurd (other refl)
 by_kind (RoleGrants role) x other = refl
 by_kind (AdminOptions role) (item.RoleAdmin g) other = absurd (other refl)
 by_kind (AdminOptions role) x other = refl
-by_kind (Columns table) (item.Column c) other = absurd (other refl)
-by_kind (Columns table) x other = refl
 by_kind (Held need) (item.Held r) other = absurd (other refl)
 by_kind (Held need) x other = refl
 by_kind (Grantable need) (item.Grantable r) other = absurd (other refl)
@@ -231,6 +268,33 @@ within_kind (Objects kind schema) x y ex ey less =
     let at_x = here_place n schema.now (kind_of x) (schema_in x) (own_schema x) ex (has_schema x (omega (arith, ex, b.0)) (omega (arith, ex, b.1))) in
     let at_y = here_place n schema.now (kind_of y) (schema_in y) (own_schema y) ey (has_schema y (omega (arith, ey, b.0)) (omega (arith, ey, b.1))) in
     rw (at_x, at_y) (first_part name_cmp nat_list_cmp_total (own_schema x) (own_schema y) schema.now first.0 (sym first.1 ∙ less))
+within_kind (User name) (item.User n) (item.User n') ex ey less = whole_key name_cmp nat_list_cmp_total n n' name.now less
+within_kind (User name) (item.User n) y ex ey less = unlike _ 1 refl refl ey
+within_kind (User name) x y ex ey less = unlike _ 1 refl refl ex
+within_kind (Role name) (item.Role n) (item.Role n') ex ey less = whole_key name_cmp nat_list_cmp_total n n' name.now less
+within_kind (Role name) (item.Role n) y ex ey less = unlike _ 2 refl refl ey
+within_kind (Role name) x y ex ey less = unlike _ 2 refl refl ex
+within_kind (Schema name) (item.Schema s) (item.Schema s') ex ey less = whole_key name_cmp nat_list_cmp_total s.name s'.name name.now less
+within_kind (Schema name) (item.Schema s) y ex ey less = unlike _ 3 refl refl ey
+within_kind (Schema name) x y ex ey less = unlike _ 3 refl refl ex
+within_kind (Table key) (item.Table t) (item.Table t') ex ey less = whole_key object_cmp object_laws.total-law t t' (object_of key) less
+within_kind (Table key) (item.Table t) y ex ey less = unlike _ 4 refl refl ey
+within_kind (Table key) x y ex ey less = unlike _ 4 refl refl ex
+within_kind (View key) (item.View v) (item.View v') ex ey less = whole_key object_cmp object_laws.total-law v.view v'.view (object_of key) less
+within_kind (View key) (item.View v) y ex ey less = unlike _ 5 refl refl ey
+within_kind (View key) x y ex ey less = unlike _ 5 refl refl ex
+within_kind (Columns key) (item.Column c) (item.Column c') ex ey less = first_part object_cmp object_laws.total-law c.table c'.table (object_of key) _ less
+within_kind (Columns key) (item.Column c) y ex ey less = unlike _ 6 refl refl ey
+within_kind (Columns key) x y ex ey less = unlike _ 6 refl refl ex
+within_kind (Domain key) (item.Domain d) (item.Domain d') ex ey less = whole_key object_cmp object_laws.total-law d.domain d'.domain (object_of key) less
+within_kind (Domain key) (item.Domain d) y ex ey less = unlike _ 7 refl refl ey
+within_kind (Domain key) x y ex ey less = unlike _ 7 refl refl ex
+within_kind (Key key) (item.Key k) (item.Key k') ex ey less = whole_key object_cmp object_laws.total-law k.name k'.name (object_of key) less
+within_kind (Key key) (item.Key k) y ex ey less = unlike _ 9 refl refl ey
+within_kind (Key key) x y ex ey less = unlike _ 9 refl refl ex
+within_kind (Routine key) (item.Routine r) (item.Routine r') ex ey less = whole_key object_cmp object_laws.total-law r.routine r'.routine (object_of key) less
+within_kind (Routine key) (item.Routine r) y ex ey less = unlike _ 13 refl refl ey
+within_kind (Routine key) x y ex ey less = unlike _ 13 refl refl ex
 within_kind RoleAuthorizations x y ex ey less = rw (ex, ey) (omega arith)
 within_kind (RoleGrants role) (item.RoleAuth g) (item.RoleAuth h) ex ey less = first_part name_cmp nat_list_cmp_total g.role h.role role.now _ less
 within_kind (RoleGrants role) (item.RoleAuth g) y ex ey less = unlike _ 14 refl refl ey
@@ -238,13 +302,10 @@ within_kind (RoleGrants role) x y ex ey less = unlike _ 14 refl refl ex
 within_kind (AdminOptions role) (item.RoleAdmin g) (item.RoleAdmin h) ex ey less = first_part name_cmp nat_list_cmp_total g.role h.role role.now _ less
 within_kind (AdminOptions role) (item.RoleAdmin g) y ex ey less = unlike _ 15 refl refl ey
 within_kind (AdminOptions role) x y ex ey less = unlike _ 15 refl refl ex
-within_kind (Columns table) (item.Column g) (item.Column h) ex ey less = first_part object_cmp object_laws.total-law g.table h.table table.now _ less
-within_kind (Columns table) (item.Column g) y ex ey less = unlike _ 6 refl refl ey
-within_kind (Columns table) x y ex ey less = unlike _ 6 refl refl ex
-within_kind (Held need) (item.Held g) (item.Held h) ex ey less = first_part need_cmp need_cmp-total g.need h.need need.now _ less
+within_kind (Held need) (item.Held g) (item.Held h) ex ey less = first_part need_cmp need_cmp-total g.need h.need (need_of need) _ less
 within_kind (Held need) (item.Held g) y ex ey less = unlike _ 16 refl refl ey
 within_kind (Held need) x y ex ey less = unlike _ 16 refl refl ex
-within_kind (Grantable need) (item.Grantable g) (item.Grantable h) ex ey less = first_part need_cmp need_cmp-total g.need h.need need.now _ less
+within_kind (Grantable need) (item.Grantable g) (item.Grantable h) ex ey less = first_part need_cmp need_cmp-total g.need h.need (need_of need) _ less
 within_kind (Grantable need) (item.Grantable g) y ex ey less = unlike _ 17 refl refl ey
 within_kind (Grantable need) x y ex ey less = unlike _ 17 refl refl ex
 

@@ -5,6 +5,7 @@ pub mod Edits
 pub mod Fit
 pub mod Good
 pub mod ItemTexts
+pub mod Keys
 pub mod Mentions
 pub mod Needs
 pub mod Order

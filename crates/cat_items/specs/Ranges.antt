@@ -8,9 +8,13 @@ use Rattle.cat_items.specs.declared.item.Item.TheVariants as item
 use Rattle.cat_items.specs.declared.ranges.ObjectKind.{ObjectKind}
 use Rattle.cat_items.specs.declared.ranges.ObjectKind.TheVariants as object
 use Rattle.cat_items.specs.declared.ranges.Part.{Part}
-use Rattle.cat_items.specs.declared.ranges.Part.TheVariants.{Objects, RoleAuthorizations, RoleGrants, AdminOptions, Columns, Held, Grantable}
+use Rattle.cat_items.specs.declared.ranges.Part.TheVariants.{Objects, User, Role, Schema, Table, View, Columns, Domain, Key, Routine, RoleAuthorizations, RoleGrants, AdminOptions, Held, Grantable}
+use Rattle.sql_tree.specs.declared.object.Object.{Object}
+use Rattle.cat_items.specs.Keys.{object_of, need_of}
 use Rattle.cat_items.specs.Order.{name_cmp, object_cmp, need_cmp, kind_of}
+use Rattle.cat_items.specs.Rights.{IsRole, IsSchema, IsBaseTable}
 use Rattle.cat_items.specs.Shape.{IsColumnOf}
+use Rattle.cat_items.specs.Supported.{IsKey}
 
 -- the places from the first to before the second are exactly those of items that are so
 pub record IsRange (items : List Item) (from to : ℕ) (P : Item → Type 0) : Type 0 where
@@ -49,6 +53,25 @@ schema_in x = None
 abbrev pub IsObjectIn : ObjectKind → List ℕ → Item → Type 0
 IsObjectIn kind schema x = (kind_of x ≡ number_of kind) × (schema_in x ≡ Some schema)
 
+-- the user of this name
+abbrev pub IsUser : List ℕ → Item → Type 0
+IsUser name (item.User n) = n ≡ name
+IsUser name x = ⊥
+
+abbrev pub IsView : Object → Item → Type 0
+IsView o (item.View v) = v.view ≡ o
+IsView o x = ⊥
+
+-- the domain of this name
+abbrev pub IsDomainOf : Object → Item → Type 0
+IsDomainOf o (item.Domain d) = d.domain ≡ o
+IsDomainOf o x = ⊥
+
+-- the routine of this name
+abbrev pub IsRoutineOf : Object → Item → Type 0
+IsRoutineOf o (item.Routine r) = r.routine ≡ o
+IsRoutineOf o x = ⊥
+
 abbrev pub IsRoleAuthorization : Item → Type 0
 IsRoleAuthorization (item.RoleAuth g) = Unit {0}
 IsRoleAuthorization x = ⊥
@@ -75,20 +98,36 @@ IsGrantableOf need x = ⊥
 
 abbrev pub IsIn : Part → Item → Type 0
 IsIn (Objects kind schema) x = IsObjectIn kind schema.now x
+IsIn (User name) x = IsUser name.now x
+IsIn (Role name) x = IsRole name.now x
+IsIn (Schema name) x = IsSchema name.now x
+IsIn (Table key) x = IsBaseTable (object_of key) x
+IsIn (View key) x = IsView (object_of key) x
+IsIn (Columns key) x = IsColumnOf (object_of key) x
+IsIn (Domain key) x = IsDomainOf (object_of key) x
+IsIn (Key key) x = IsKey (object_of key) x
+IsIn (Routine key) x = IsRoutineOf (object_of key) x
 IsIn RoleAuthorizations x = IsRoleAuthorization x
 IsIn (RoleGrants role) x = IsGrantOf role.now x
 IsIn (AdminOptions role) x = IsAdminOptionOf role.now x
-IsIn (Columns table) x = IsColumnOf table.now x
-IsIn (Held need) x = IsHeldOf need.now x
-IsIn (Grantable need) x = IsGrantableOf need.now x
+IsIn (Held need) x = IsHeldOf (need_of need) x
+IsIn (Grantable need) x = IsGrantableOf (need_of need) x
 
 -- the kind of the items of a part
 abbrev pub kind_in : Part → ℕ
 kind_in (Objects kind schema) = number_of kind
+kind_in (User name) = 1
+kind_in (Role name) = 2
+kind_in (Schema name) = 3
+kind_in (Table key) = 4
+kind_in (View key) = 5
+kind_in (Columns key) = 6
+kind_in (Domain key) = 7
+kind_in (Key key) = 9
+kind_in (Routine key) = 13
 kind_in RoleAuthorizations = 14
 kind_in (RoleGrants role) = 14
 kind_in (AdminOptions role) = 15
-kind_in (Columns table) = 6
 kind_in (Held need) = 16
 kind_in (Grantable need) = 17
 
@@ -99,9 +138,17 @@ object_place number schema kind (Some own) = cond (nat_eq kind number) (name_cmp
 -- before the part, in it, or behind it
 abbrev pub place_in : Part → Item → Ordering
 place_in (Objects kind schema) x = object_place (number_of kind) schema.now (kind_of x) (schema_in x)
+place_in (User name) (item.User n) = name_cmp n name.now
+place_in (Role name) (item.Role n) = name_cmp n name.now
+place_in (Schema name) (item.Schema s) = name_cmp s.name name.now
+place_in (Table key) (item.Table t) = object_cmp t (object_of key)
+place_in (View key) (item.View v) = object_cmp v.view (object_of key)
+place_in (Columns key) (item.Column c) = object_cmp c.table (object_of key)
+place_in (Domain key) (item.Domain d) = object_cmp d.domain (object_of key)
+place_in (Key key) (item.Key k) = object_cmp k.name (object_of key)
+place_in (Routine key) (item.Routine r) = object_cmp r.routine (object_of key)
 place_in (RoleGrants role) (item.RoleAuth g) = name_cmp g.role role.now
 place_in (AdminOptions role) (item.RoleAdmin g) = name_cmp g.role role.now
-place_in (Columns table) (item.Column c) = object_cmp c.table table.now
-place_in (Held need) (item.Held r) = need_cmp r.need need.now
-place_in (Grantable need) (item.Grantable r) = need_cmp r.need need.now
+place_in (Held need) (item.Held r) = need_cmp r.need (need_of need)
+place_in (Grantable need) (item.Grantable r) = need_cmp r.need (need_of need)
 place_in part x = nat_cmp (kind_of x) (kind_in part)

@@ -6,6 +6,7 @@ mod catalogue;
 mod copies;
 mod edit;
 mod item;
+mod keys;
 mod limits;
 mod marks;
 mod need;
@@ -25,11 +26,12 @@ pub use item::{
     Assertion, Check, Column, Domain, DomainCheck, Foreign, Item, Key, Right, RoleGrant, Routine,
     Schema, View,
 };
+pub use keys::{NeedKey, ObjectKey, PathKey};
 pub use limits::Limits;
 pub use marks::Marks;
 pub use need::{Auth, Need};
 pub use ranges::{
-    ObjectKind, admin_options_of, columns_of, grantable_of, held_of, objects_of,
+    ObjectKind, Part, admin_options_of, columns_of, grantable_of, held_of, objects_of, places,
     role_authorizations, role_grants_of,
 };
 pub use row::{Cell, Row};

@@ -8,6 +8,7 @@ ghost use Rattle.cat_items.specs.Shape.{IsColumnOf};
 
 use crate::catalogue::Catalogue;
 use crate::item::Item;
+use crate::keys::{NeedKey, ObjectKey, compare_need, compare_object};
 use crate::need::Need;
 use sql_tree::{Name, Object};
 use std::cmp::Ordering;
@@ -28,16 +29,32 @@ pub enum ObjectKind {
     Routine,
 }
 
-/// A part of the order of descriptors.
+/// A part of the order of descriptors: those of a key, or some that stand together.
 #[derive(Clone, Copy)]
-enum Part<'a> {
+pub enum Part<'a> {
+    User(&'a Name),
+    Role(&'a Name),
+    Schema(&'a Name),
+    /// A base table.
+    Table(ObjectKey<'a>),
+    View(ObjectKey<'a>),
+    /// The columns of a table or a view.
+    Columns(ObjectKey<'a>),
+    Domain(ObjectKey<'a>),
+    /// A PRIMARY KEY or UNIQUE constraint.
+    Key(ObjectKey<'a>),
+    Routine(ObjectKey<'a>),
+    /// The objects of one kind in a schema.
     Objects(ObjectKind, &'a Name),
     RoleAuthorizations,
+    /// The role authorizations of a role.
     RoleGrants(&'a Name),
+    /// The admin options of a role.
     AdminOptions(&'a Name),
-    Columns(&'a Object),
-    Held(&'a Need),
-    Grantable(&'a Need),
+    /// The privileges of exactly this need.
+    Held(NeedKey<'a>),
+    /// The grant options of exactly this need.
+    Grantable(NeedKey<'a>),
 }
 
 /// The number of an item's kind.
@@ -108,9 +125,17 @@ fn kind_of_part(part: Part<'_>) -> u8
 {
     match part {
         Part::Objects(kind, _) => object_kind(kind),
+        Part::User(_) => 1,
+        Part::Role(_) => 2,
+        Part::Schema(_) => 3,
+        Part::Table(_) => 4,
+        Part::View(_) => 5,
+        Part::Columns(_) => 6,
+        Part::Domain(_) => 7,
+        Part::Key(_) => 9,
+        Part::Routine(_) => 13,
         Part::RoleAuthorizations | Part::RoleGrants(_) => 14,
         Part::AdminOptions(_) => 15,
-        Part::Columns(_) => 6,
         Part::Held(_) => 16,
         Part::Grantable(_) => 17,
     }
@@ -132,17 +157,25 @@ fn place(part: Part<'_>, x: &Item) -> Ordering
 {
     match (part, x) {
         (Part::Objects(kind, schema), _) => place_of_object(object_kind(kind), schema, x),
+        (Part::User(name), Item::User(user)) => user.cmp(name),
+        (Part::Role(name), Item::Role(role)) => role.cmp(name),
+        (Part::Schema(name), Item::Schema(schema)) => schema.get().name.cmp(name),
+        (Part::Table(key), Item::Table(table)) => compare_object(table.get(), key),
+        (Part::View(key), Item::View(view)) => compare_object(&view.get().view, key),
+        (Part::Columns(key), Item::Column(column)) => compare_object(&column.get().table, key),
+        (Part::Domain(key), Item::Domain(domain)) => compare_object(&domain.get().domain, key),
+        (Part::Key(key), Item::Key(constraint)) => compare_object(&constraint.get().name, key),
+        (Part::Routine(key), Item::Routine(routine)) => compare_object(&routine.get().routine, key),
         (Part::RoleGrants(role), Item::RoleAuth(grant)) => grant.get().role.cmp(role),
         (Part::AdminOptions(role), Item::RoleAdmin(grant)) => grant.get().role.cmp(role),
-        (Part::Columns(table), Item::Column(column)) => column.get().table.cmp(table),
-        (Part::Held(need), Item::Held(right)) => right.get().need.cmp(need),
-        (Part::Grantable(need), Item::Grantable(right)) => right.get().need.cmp(need),
+        (Part::Held(need), Item::Held(right)) => compare_need(&right.get().need, need),
+        (Part::Grantable(need), Item::Grantable(right)) => compare_need(&right.get().need, need),
         _ => kind(x).cmp(&kind_of_part(part)),
     }
 }
 
-/// The places of a part.
-fn range(c: &Catalogue, part: Part<'_>) -> Range<usize>
+/// The places of a part. It takes no memory.
+pub fn places(c: &Catalogue, part: Part<'_>) -> Range<usize>
     ensures { IsRange c.now.items result.start result.end (IsIn part.entry) }
 {
     let items = c.items();
@@ -155,47 +188,47 @@ fn range(c: &Catalogue, part: Part<'_>) -> Range<usize>
 pub fn objects_of(c: &Catalogue, kind: ObjectKind, schema: &Name) -> Range<usize>
     ensures { IsRange c.now.items result.start result.end (IsObjectIn kind schema.now) }
 {
-    range(c, Part::Objects(kind, schema))
+    places(c, Part::Objects(kind, schema))
 }
 
 /// The places of all role authorizations. It takes no memory.
 pub fn role_authorizations(c: &Catalogue) -> Range<usize>
     ensures { IsRange c.now.items result.start result.end IsRoleAuthorization }
 {
-    range(c, Part::RoleAuthorizations)
+    places(c, Part::RoleAuthorizations)
 }
 
 /// The places of the role authorizations of a role: to whom it is granted. It takes no memory.
 pub fn role_grants_of(c: &Catalogue, role: &Name) -> Range<usize>
     ensures { IsRange c.now.items result.start result.end (IsGrantOf role.now) }
 {
-    range(c, Part::RoleGrants(role))
+    places(c, Part::RoleGrants(role))
 }
 
 /// The places of the admin options of a role. It takes no memory.
 pub fn admin_options_of(c: &Catalogue, role: &Name) -> Range<usize>
     ensures { IsRange c.now.items result.start result.end (IsAdminOptionOf role.now) }
 {
-    range(c, Part::AdminOptions(role))
+    places(c, Part::AdminOptions(role))
 }
 
 /// The places of the columns of a table or a view, in the order of their own places. It takes no memory.
 pub fn columns_of(c: &Catalogue, table: &Object) -> Range<usize>
     ensures { IsRange c.now.items result.start result.end (IsColumnOf table.now) }
 {
-    range(c, Part::Columns(table))
+    places(c, Part::Columns(table.into()))
 }
 
 /// The places of the privileges of exactly this need. It takes no memory.
 pub fn held_of(c: &Catalogue, need: &Need) -> Range<usize>
     ensures { IsRange c.now.items result.start result.end (IsHeldOf need.now) }
 {
-    range(c, Part::Held(need))
+    places(c, Part::Held(need.into()))
 }
 
 /// The places of the grant options of exactly this need. It takes no memory.
 pub fn grantable_of(c: &Catalogue, need: &Need) -> Range<usize>
     ensures { IsRange c.now.items result.start result.end (IsGrantableOf need.now) }
 {
-    range(c, Part::Grantable(need))
+    places(c, Part::Grantable(need.into()))
 }

@@ -184,16 +184,26 @@ fn same_routine(a: &Routine, b: &Routine) -> bool
         && a.needs.same_as(&b.needs)
 }
 
-fn same_role_grant(a: &RoleGrant, b: &RoleGrant) -> bool
-    ensures { IsTrue result ↔ (a.now ≡ b.now) }
-{
-    a.role.same(&b.role) && a.grantor.same_as(&b.grantor) && a.grantee.same(&b.grantee)
+impl RoleGrant {
+    /// Whether the two are equal. It takes no memory.
+    pub fn same(&self, other: &RoleGrant) -> bool
+        ensures { IsTrue result ↔ (self.now ≡ other.now) }
+    {
+        self.role.same(&other.role)
+            && self.grantor.same_as(&other.grantor)
+            && self.grantee.same(&other.grantee)
+    }
 }
 
-fn same_right(a: &Right, b: &Right) -> bool
-    ensures { IsTrue result ↔ (a.now ≡ b.now) }
-{
-    a.need.same_as(&b.need) && a.grantor.same_as(&b.grantor) && a.grantee.same_as(&b.grantee)
+impl Right {
+    /// Whether the two are equal. It takes no memory.
+    pub fn same(&self, other: &Right) -> bool
+        ensures { IsTrue result ↔ (self.now ≡ other.now) }
+    {
+        self.need.same_as(&other.need)
+            && self.grantor.same_as(&other.grantor)
+            && self.grantee.same_as(&other.grantee)
+    }
 }
 
 /// Whether two items are equal in all fields, and not in their keys alone. It takes no memory.
@@ -214,10 +224,10 @@ pub fn same_item(a: &Item, b: &Item) -> bool
         (Item::Assertion(a), Item::Assertion(b)) => same_assertion(a.get(), b.get()),
         (Item::Routine(a), Item::Routine(b)) => same_routine(a.get(), b.get()),
         (Item::RoleAuth(a), Item::RoleAuth(b)) | (Item::RoleAdmin(a), Item::RoleAdmin(b)) => {
-            same_role_grant(a.get(), b.get())
+            a.get().same(b.get())
         }
         (Item::Held(a), Item::Held(b)) | (Item::Grantable(a), Item::Grantable(b)) => {
-            same_right(a.get(), b.get())
+            a.get().same(b.get())
         }
         _ => false,
     }

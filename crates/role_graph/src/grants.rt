@@ -21,7 +21,7 @@ pub fn grant_at(items: &[Item], at: usize) -> &RoleGrant
     }
 }
 
-/// Whether the item at a place counts: where there are marks, whether the place is marked.
+/// Whether the item at a place counts: where there are marks, whether the place is marked. It takes no memory.
 pub fn is_counted(marks: Option<&Marks>, at: usize) -> bool
     requires { HasMark at (option_copied marks) }
     ensures { result ≡ counts (option_copied marks.entry) at }

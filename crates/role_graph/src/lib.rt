@@ -12,5 +12,6 @@ mod walk;
 
 pub use actor::Actor;
 pub use cycle::makes_cycle;
+pub use grants::is_counted;
 pub use roles::{applicable, enabled};
 pub use walk::{Walk, reaches};

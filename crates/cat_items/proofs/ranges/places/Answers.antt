@@ -3,7 +3,7 @@ use Rattle.std.proofs.lemmas.Fn.{always_returns_same}
 use Rattle.std.specs.Ordering.{is_lt, is_le}
 use Rattle.cat_items.specs.Ranges.{place_in}
 use Rattle.cat_items.proofs.RangeLemmas.{starts_parted, ends_parted, range_between}
-use Rattle.cat_items.proofs.ranges.range.Goals as goal
+use Rattle.cat_items.proofs.ranges.places.Goals as goal
 
 -- the closures place an item in the part, and the slice is the catalogue's
 pub returns : goal.returns

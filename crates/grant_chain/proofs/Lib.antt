@@ -1,0 +1,5 @@
+pub mod AllLemmas
+pub mod LoopLemmas
+pub mod MeetingLemmas
+pub mod RoundLemmas
+pub mod SystemLemmas

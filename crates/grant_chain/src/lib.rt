@@ -1,0 +1,16 @@
+//! Which descriptors stand: whether a need is met, whether a descriptor is supported by others, and which
+//! descriptors of a catalogue survive by finite chains of support.
+#![tactic(auto)]
+
+mod loops;
+mod meeting;
+mod rounds;
+mod standing;
+mod support;
+mod system;
+#[cfg(test)]
+mod tests;
+
+pub use meeting::{Needs, met, met_by};
+pub use rounds::survivors;
+pub use support::supported;
