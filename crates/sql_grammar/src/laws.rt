@@ -2,10 +2,11 @@
 
 ghost use Rattle.sql_grammar.specs.Laws.{CountsBrackets, HasNoOtherLimit};
 
-/// The limit of brackets is a count over the words: within a number of at least 2 a statement has at most that many open
-/// behind each of its words, and one within some number is one within each number of which that is true.
+/// The limit of brackets is a count over the words: a statement within a number of at least 2 has at most that many open behind
+/// each front part of its words, and where at most that many are open, what is a statement within any number is one within it.
 ///
-/// Below 2 the brackets round lists of names are not counted: inside a table's brackets or a body they are the second to be open.
+/// Below 2 the first is not so: the brackets that the rules themselves have, as those round a list of names inside a table's, are up
+/// to two deep whatever the number.
 pub fn brackets_are_counted()
     ensures counted { CountsBrackets }
     ensures no_other_limit { HasNoOtherLimit }
