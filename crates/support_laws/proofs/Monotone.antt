@@ -1,6 +1,7 @@
 -- What supports an item goes on to support it where there are more items.
 use Rattle.std.proofs.Common.{Bool, true, false, List, [], ◌∷◌, Option, Some, None}
 use Rattle.std.specs.Prelude.{ℕ, ◌-◌, All, slice_get}
+use Rattle.std.specs.List.{Contains}
 use Rattle.std.proofs.lemmas.List.Elements.{All-contains}
 use Rattle.finite_chains.specs.Chains.{IsWithin, IsMonotone}
 use Rattle.finite_chains.proofs.Members.{All-from_contains}
@@ -27,8 +28,11 @@ use Rattle.cat_items.specs.Supported.{HasColumns, RestsOnDomain, Keeps, RoutineR
 pub has_some : (s t : List Item) (P Q : Item → Type 0) → IsWithin s t → ((y : Item) → P y → Q y) → Has s P → Has t Q
 has_some s t P Q within f h = (h.0, within h.0 h.1, f h.0 h.2)
 
+pub all_in : {X : Type 0} (P Q : X → Type 0) (xs : List X) → ((x : X) → Contains xs x → P x → Q x) → All P xs → All Q xs
+all_in P Q xs f all = All-from_contains Q xs (λ x is. f x is (All-contains P xs x all is))
+
 all_of : {X : Type 0} (P Q : X → Type 0) (xs : List X) → ((x : X) → P x → Q x) → All P xs → All Q xs
-all_of P Q xs f all = All-from_contains Q xs (λ x is. f x (All-contains P xs x all is))
+all_of P Q xs f all = all_in P Q xs (λ x is. f x) all
 
 module _ (s t : List Item) (within : IsWithin s t) where
   -- the same things of the larger list

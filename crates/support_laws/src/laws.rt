@@ -1,19 +1,27 @@
 //! Each law stands in the contract of a function that does nothing.
 
 ghost use Rattle.std.specs.Prelude.{◌≡◌, List};
-ghost use Rattle.finite_chains.specs.Chains.{IsMonotone};
+ghost use Rattle.std.specs.List.{Contains};
+ghost use Rattle.finite_chains.specs.Chains.{IsMonotone, IsWithin};
 ghost use Rattle.cat_items.specs.declared.edit.Edit.{Edit};
 ghost use Rattle.cat_items.specs.declared.item.Item.{Item};
 ghost use Rattle.cat_items.specs.Edits.{IsNew};
 ghost use Rattle.cat_items.specs.Fit.{IsFit};
 ghost use Rattle.cat_items.specs.Good.{IsGood};
-ghost use Rattle.cat_items.specs.Shape.{HasShape};
+ghost use Rattle.cat_items.specs.Relevant.{Relevant};
+ghost use Rattle.cat_items.specs.Shape.{HasDerivedFields, HasShape};
 ghost use Rattle.cat_items.specs.Supported.{Supported};
 ghost use Rattle.cat_items.specs.Survivors.{AreSurvivors, IsWithSystem};
 
 /// What supports an item goes on to support it where there are more items.
 pub fn support_is_monotone()
     ensures { (items : List Item) → IsMonotone (Supported items) }
+{}
+
+/// What supports an item goes on to support it where each supporting item that is relevant to it stays. It supports a table
+/// by columns of `items`. Needs are to be those of their trees, none of which is ADMIN: only to grants of roles are admin options relevant.
+pub fn support_is_local()
+    ensures { (items all s t : List Item) (x : Item) → HasDerivedFields x → ((y : Item) → Contains s y → HasDerivedFields y) → IsWithin items all → IsWithin s all → ((y : Item) → Contains s y → Relevant all y x → Contains t y) → Supported items s x → Supported items t x }
 {}
 
 /// What survives of a list of a proper shape, together with the rights that the system could grant for its objects, is good:
