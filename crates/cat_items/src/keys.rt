@@ -60,9 +60,7 @@ impl<'a> From<&'a Need> for NeedKey<'a> {
 pub fn compare_object(x: &Object, key: ObjectKey<'_>) -> Ordering
     ensures { result ≡ object_cmp x.now (object_of key.entry) }
 {
-    x.schema
-        .cmp(key.schema)
-        .then_with(|| x.name.cmp(key.name))
+    x.schema.cmp(key.schema).then_with(|| x.name.cmp(key.name))
 }
 
 /// Compares a path with the one of an object.

@@ -1,9 +1,9 @@
 //! Texts by the rules of the catalogue, and that ample memory is enough.
 
 use crate::{
-    Auth, Catalogue, Column, Item, Limits, Marks, Need, Right, RoleGrant, Shared, admin_options_of,
-    columns_of, find, grantable_of, held_of, item_text, need_text, owner_of, role_authorizations,
-    role_grants_of, same_item,
+    Auth, Catalogue, Column, Item, Limits, Marks, Need, Part, Right, RoleGrant, Shared,
+    admin_options_of, columns_of, find, grantable_of, held_of, item_text, need_text, owner_of,
+    places, role_authorizations, role_grants_of, same_item,
 };
 use sql_tree::{Action, Name, Object, Path, SqlType, Text};
 use std::alloc::{AllocError, Global};
@@ -141,5 +141,16 @@ fn ranges_of_no_items(rt: HostRuntime) -> Result<(), Fail> {
     assert_eq!(rt; held_of(&c, &need).len(), 0);
     assert_eq!(rt; grantable_of(&c, &need).len(), 0);
     assert_eq!(rt; Marks::new(alloc, &c)?.as_slice().len(), 0);
+    Ok(())
+}
+
+#[test]
+fn places_of_a_role(rt: HostRuntime) -> Result<(), Fail> {
+    let alloc = rt.alloc();
+    let mut c = Catalogue::of_sorted(Vec::new(alloc));
+    put(&mut c, Item::Role(name(alloc, "R")?))?;
+    let role = name(alloc, "R")?;
+    assert_eq!(rt; places(&c, Part::Role(&role)).len(), 1);
+    assert_eq!(rt; places(&c, Part::User(&role)).len(), 0);
     Ok(())
 }
