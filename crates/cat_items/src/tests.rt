@@ -1,9 +1,9 @@
 //! Texts by the rules of the catalogue, and that ample memory is enough.
 
 use crate::{
-    Auth, Catalogue, Column, Item, Limits, Marks, Need, ObjectKind, Right, RoleGrant, Shared,
+    Auth, Catalogue, Column, Item, Limits, Marks, Need, ObjectKind, Part, Right, RoleGrant, Shared,
     admin_options_of, columns_of, find, grantable_of, held_of, item_text, need_text, objects_of,
-    owner_of, role_authorizations, role_grants_of, same_item,
+    owner_of, places, role_authorizations, role_grants_of, same_item,
 };
 use sql_tree::{Action, Name, Object, Path, SqlType, Text};
 use std::alloc::{AllocError, Global};
@@ -158,5 +158,16 @@ fn objects_of_a_schema(rt: HostRuntime) -> Result<(), Fail> {
     assert_eq!(rt; objects_of(&c, ObjectKind::Table, &schema).start, 1);
     assert_eq!(rt; objects_of(&c, ObjectKind::Table, &schema).len(), 1);
     assert_eq!(rt; objects_of(&c, ObjectKind::View, &schema).len(), 0);
+    Ok(())
+}
+
+#[test]
+fn places_of_a_role(rt: HostRuntime) -> Result<(), Fail> {
+    let alloc = rt.alloc();
+    let mut c = Catalogue::of_sorted(Vec::new(alloc));
+    put(&mut c, Item::Role(name(alloc, "R")?))?;
+    let role = name(alloc, "R")?;
+    assert_eq!(rt; places(&c, Part::Role(&role)).len(), 1);
+    assert_eq!(rt; places(&c, Part::User(&role)).len(), 0);
     Ok(())
 }

@@ -1,8 +1,8 @@
 -- Searches through the places of a part.
-use Rattle.std.proofs.Common.{◌≡◌, ◌↔◌, ◌⊎◌, ℕ, ◌+◌, ◌<◌, ◌≤◌, Bool, true, false, List, Option, [], ap, length, get_or, sym, ◌∙◌, subst, refl, inl, inr, arith}
+use Rattle.std.proofs.Common.{◌≡◌, ◌↔◌, ℕ, ◌+◌, ◌<◌, ◌≤◌, Bool, true, List, Option, [], length, get_or, sym, ◌∙◌, subst, inl, inr, arith}
 use Rattle.std.specs.List.{Contains}
 use Rattle.std.proofs.lemmas.List.{get_or_default}
-use Rattle.std.proofs.lemmas.Bool.{cases_lt, false≢true, both_ways}
+use Rattle.std.proofs.lemmas.Bool.{cases_lt}
 use Rattle.cat_items.specs.declared.item.Item.{Item}
 use Rattle.cat_items.specs.declared.item.Item.TheVariants.{User}
 use Rattle.cat_items.specs.Reach.{Has}

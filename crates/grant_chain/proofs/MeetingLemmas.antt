@@ -1,5 +1,5 @@
 -- What lies in a part of the order.
-use Rattle.std.proofs.Common.{◌≡◌, ◌↔◌, ◌⊎◌, ℕ, Bool, true, false, List, [], ◌∷◌, Option, Some, None, sym, ◌∙◌, ap, subst, refl, inl, inr}
+use Rattle.std.proofs.Common.{◌≡◌, ◌↔◌, ℕ, Bool, true, false, List, [], ◌∷◌, sym, ap, refl}
 use Rattle.sql_tree.specs.declared.object.Object.{Object}
 use Rattle.sql_tree.specs.declared.rights.Action.{Action}
 use Rattle.sql_tree.specs.declared.rights.Action.TheVariants as action
@@ -9,7 +9,7 @@ use Rattle.cat_items.specs.declared.item.Item.{Item}
 use Rattle.cat_items.specs.declared.item.Item.TheVariants as item
 use Rattle.cat_items.specs.Ranges.{IsAdminOptionOf, IsHeldOf, IsGrantableOf}
 use Rattle.cat_items.specs.Reach.{Has}
-use Rattle.cat_items.specs.Rights.{path_of, IsSchema, IsColumn, IsObject, Stands, IsRightFor, IsAdminFor, MetBy, Met, MeetsAll}
+use Rattle.cat_items.specs.Rights.{path_of, IsSchema, IsColumn, IsObject, Stands, IsRightFor, IsAdminFor, MetBy, MeetsAll}
 use Rattle.cat_items.specs.Shape.{IsColumnOf}
 use Rattle.grant_chain.specs.Loops.{IsColumnNamed, IsReached}
 

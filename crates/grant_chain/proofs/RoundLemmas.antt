@@ -1,5 +1,5 @@
 -- A round over marks, place by place.
-use Rattle.std.proofs.Common.{◌≡◌, ◌⊎◌, ℕ, zero, suc, ◌+◌, ◌<◌, ◌≤◌, Bool, true, false, not, cond, List, [], ◌∷◌, ◌++◌, length, take, get_or, set, count_by, sym, ◌∙◌, ap, subst, refl, inl, inr, arith, below_more, replicate, get_or-set_other, get_or-set_same, Ordering}
+use Rattle.std.proofs.Common.{◌≡◌, ◌⊎◌, ℕ, zero, suc, ◌+◌, ◌<◌, ◌≤◌, Bool, true, false, not, cond, List, [], ◌∷◌, ◌++◌, length, take, get_or, set, count_by, sym, ◌∙◌, ap, subst, refl, inl, inr, arith, below_more, replicate, get_or-set_other, Ordering}
 use Rattle.std.specs.List.{Contains, All, AllPairs}
 use Rattle.std.specs.declared.cmp.Ordering.TheVariants.{Less}
 use Rattle.std.proofs.Math.ListN.{length-set}
@@ -10,7 +10,7 @@ use Rattle.std.proofs.lemmas.List.Elements.{All-contains}
 use Rattle.finite_chains.specs.Chains.{IsMonotone, Survives}
 use Rattle.finite_chains.specs.StrictOrder.{IsRising}
 use Rattle.finite_chains.proofs.Chains.{Survives-step}
-use Rattle.finite_chains.proofs.Members.{Contains-head, Contains-tail, Contains-cases, All-from_contains}
+use Rattle.finite_chains.proofs.Members.{All-from_contains}
 use Rattle.finite_chains.proofs.StrictOrders.{IsRising-from_pairs}
 use Rattle.cat_items.proofs.Rising.{pairs_from_rising}
 use Rattle.role_graph.specs.Marked.{marked}

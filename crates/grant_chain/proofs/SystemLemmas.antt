@@ -4,13 +4,12 @@ use Rattle.std.specs.Bool.{IsTrue}
 use Rattle.sql_tree.specs.declared.object.Object.{Object}
 use Rattle.cat_items.specs.declared.need.Auth.{Auth}
 use Rattle.cat_items.specs.declared.need.Need.{Need}
-use Rattle.cat_items.specs.declared.item.Right.{Right}
 use Rattle.cat_items.specs.declared.item.Item.{Item}
 use Rattle.cat_items.specs.declared.item.Item.TheVariants as item
 use Rattle.cat_items.specs.Ranges.{IsView, IsDomainOf, IsRoutineOf}
 use Rattle.cat_items.specs.Reach.{Has}
-use Rattle.cat_items.specs.Rights.{path_of, IsBaseTable, IsSchema}
-use Rattle.cat_items.specs.SystemRights.{IsSystemRow, IsSystemSchema}
+use Rattle.cat_items.specs.Rights.{path_of, IsBaseTable}
+use Rattle.cat_items.specs.SystemRights.{IsSystemRow}
 use Rattle.grant_chain.proofs.MeetingLemmas.{same_object}
 
 -- the object of a need

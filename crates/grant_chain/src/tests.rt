@@ -199,11 +199,14 @@ fn a_role_grant_rests_on_the_admin_option(rt: HostRuntime) -> Result<(), Fail> {
     Ok(())
 }
 
-/// Whether SELECT is met grantably for a user by the first items of a catalogue.
-fn is_met(alloc: Global, c: &Catalogue, user: &str, first: usize) -> Result<bool, Fail> {
+/// Whether SELECT is met grantably for a user by the table, at place 4, and the item at another place.
+fn is_met(alloc: Global, c: &Catalogue, user: &str, at: usize) -> Result<bool, Fail> {
     let mut walk = Walk::new(alloc, c)?;
     let mut marks = Marks::new(alloc, c)?;
-    for at in 0..first.min(marks.len()) {
+    if 4 < marks.len() {
+        marks.mark(4);
+    }
+    if at < marks.len() {
         marks.mark(at);
     }
     let user = named(alloc, user)?;
@@ -211,12 +214,12 @@ fn is_met(alloc: Global, c: &Catalogue, user: &str, first: usize) -> Result<bool
 }
 
 #[test]
-fn an_unmarked_grant_option_counts_for_nothing(rt: HostRuntime) -> Result<(), Fail> {
+fn a_grant_option_counts_where_it_is_marked(rt: HostRuntime) -> Result<(), Fail> {
     let alloc = rt.alloc();
     let c = with_owner(alloc)?;
-    assert!(rt; is_met(alloc, &c, "ALICE", 8)?);
-    assert!(rt; !is_met(alloc, &c, "ALICE", 7)?);
-    assert!(rt; !is_met(alloc, &c, "BOB", 8)?);
+    assert!(rt; is_met(alloc, &c, "ALICE", 7)?);
+    assert!(rt; !is_met(alloc, &c, "ALICE", 6)?);
+    assert!(rt; !is_met(alloc, &c, "BOB", 7)?);
     Ok(())
 }
 

@@ -1,5 +1,4 @@
 use Rattle.std.specs.Option.{option_copied}
-use Rattle.cat_items.specs.Rights.{IsSchema, MeetsAll}
 use Rattle.role_graph.specs.Marked.{counted}
 use Rattle.grant_chain.specs.Needs.{needs_of}
 use Rattle.grant_chain.proofs.LoopLemmas.{has_there, join}
