@@ -1,0 +1,4 @@
+pub mod EditedLists
+pub mod Fits
+pub mod GoodCatalogues
+pub mod Shapes

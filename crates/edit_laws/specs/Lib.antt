@@ -1,0 +1,3 @@
+pub mod Additions
+pub mod Columns
+pub mod Kinds

@@ -1,0 +1,9 @@
+//! Laws of edits: the edited catalogue stands, fits and keeps its shape, and what a good catalogue gives.
+#![tactic(auto)]
+
+mod laws;
+
+pub use laws::{
+    an_edit_has_an_edited_catalogue, good_catalogues_support_their_items,
+    proper_additions_keep_shape,
+};

@@ -1,0 +1,4 @@
+pub mod ChosenItems
+pub mod ItemKeys
+pub mod PutItems
+pub mod SettledEdits

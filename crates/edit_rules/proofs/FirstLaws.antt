@@ -1,0 +1,91 @@
+-- Which refusal comes first.
+use Rattle.std.proofs.Common.{◌≡◌, List, [], ◌∷◌, ◌++◌, sym, subst, inl, inr}
+use Rattle.cat_items.specs.declared.edit.Refusal.{Refusal}
+use Rattle.std.specs.Result.{IsErrAnd}
+use Rattle.std.specs.declared.result.Result.{Result}
+use Rattle.std.specs.declared.result.Result.TheVariants.{Ok, Err}
+use Rattle.cat_items.specs.declared.edit.EditError.{EditError}
+use Rattle.cat_items.specs.declared.edit.EditError.TheVariants.{Refused, Memory}
+use Rattle.edit_rules.specs.First.{First, Passes, Tested, IsTested}
+
+-- where no test is left, nothing refuses
+pub passes_none : Passes (First [])
+passes_none refusal h = h
+
+-- where a test passes and the others do, all do
+pub passes_more : (test : Refusal → Type 0) (tests : List (Refusal → Type 0)) → Passes test → Passes (First tests) → Passes (First (test ∷ tests))
+passes_more test tests here later refusal h = elim h [ inl r ↦ here refusal r | inr r ↦ later refusal r.1 ]
+
+-- and the other way round
+pub passes_first : (test : Refusal → Type 0) (tests : List (Refusal → Type 0)) → Passes (First (test ∷ tests)) → Passes test
+passes_first test tests all refusal r = all refusal (inl r)
+
+pub passes_rest : (test : Refusal → Type 0) (tests : List (Refusal → Type 0)) → Passes (First (test ∷ tests)) → Passes (First tests)
+passes_rest test tests all refusal r = all refusal (inr (passes_first test tests all, r))
+
+-- two refusals of one test are one
+abbrev pub IsSettled : (Refusal → Type 0) → Type 0
+IsSettled test = (a b : Refusal) → test a → test b → a ≡ b
+
+abbrev pub AreSettled : List (Refusal → Type 0) → Type 0
+AreSettled [] = Unit {0}
+AreSettled (test ∷ tests) = IsSettled test × AreSettled tests
+
+pub first_settled : (tests : List (Refusal → Type 0)) → AreSettled tests → IsSettled (First tests)
+first_settled [] all a b p q = absurd p
+first_settled (test ∷ tests) all a b p q =
+    elim p [
+      | inl x ↦ elim q [ inl y ↦ all.0 a b x y | inr y ↦ absurd (y.0 a x) ]
+      | inr x ↦ elim q [ inl y ↦ absurd (x.0 b y) | inr y ↦ first_settled tests all.1 a b x.1 y.1 ]
+    ]
+
+-- tests behind others
+pub first_left : (tests others : List (Refusal → Type 0)) (refusal : Refusal) → First tests refusal → First (tests ++ others) refusal
+first_left [] others refusal h = absurd h
+first_left (test ∷ tests) others refusal h = elim h [ inl r ↦ inl r | inr r ↦ inr (r.0, first_left tests others refusal r.1) ]
+
+pub first_right : (tests others : List (Refusal → Type 0)) (refusal : Refusal) → Passes (First tests) → First others refusal → First (tests ++ others) refusal
+first_right [] others refusal all h = h
+first_right (test ∷ tests) others refusal all h = inr (passes_first test tests all, first_right tests others refusal (passes_rest test tests all) h)
+
+pub passes_both : (tests others : List (Refusal → Type 0)) → Passes (First tests) → Passes (First others) → Passes (First (tests ++ others))
+passes_both [] others all more = more
+passes_both (test ∷ tests) others all more =
+    passes_more test (tests ++ others) (passes_first test tests all) (passes_both tests others (passes_rest test tests all) more)
+
+-- one test
+pub passes_one : (test : Refusal → Type 0) → Passes test → Passes (First (test ∷ []))
+passes_one test here = passes_more test [] here passes_none
+
+pub passes_that : (test : Refusal → Type 0) → Passes (First (test ∷ [])) → Passes test
+passes_that test all = passes_first test [] all
+
+-- an error of the first tests is one of all
+pub error_of_first : {T U : Type 0} → (tests others : List (Refusal → Type 0)) (Done : T → Type 0) (AllDone : U → Type 0) (e : EditError)
+    → IsTested tests Done (Err e) → IsTested (tests ++ others) AllDone (Err e)
+error_of_first tests others Done AllDone (Refused refusal) h = (first_left tests others refusal h.0, tt)
+error_of_first tests others Done AllDone Memory h = tt
+
+-- an error of the others, where the first pass
+pub error_of_others : {T U : Type 0} → (tests others : List (Refusal → Type 0)) (Done : T → Type 0) (AllDone : U → Type 0) (e : EditError)
+    → Passes (First tests) → IsTested others Done (Err e) → IsTested (tests ++ others) AllDone (Err e)
+error_of_others tests others Done AllDone (Refused refusal) passed h = (first_right tests others refusal passed h.0, tt)
+error_of_others tests others Done AllDone Memory passed h = tt
+
+-- what comes of the others, where the first pass
+pub tested_by_others : {T : Type 0} → (tests others : List (Refusal → Type 0)) (Done : T → Type 0) (tested : Result T EditError)
+    → Passes (First tests) → IsTested others Done tested → IsTested (tests ++ others) Done tested
+tested_by_others tests others Done (Ok value) passed h = (passes_both tests others passed h.0, h.1)
+tested_by_others tests others Done (Err e) passed h = error_of_others tests others Done Done e passed h
+
+-- the exit of a `?` with an error of the first tests
+pub exit_of_first : {T U : Type 0} → (tests others : List (Refusal → Type 0)) (Done : T → Type 0) (AllDone : U → Type 0) (e : EditError) (exit : Result U EditError)
+    → IsErrAnd exit (λ error. error ≡ e) → IsTested tests Done (Err e) → IsTested (tests ++ others) AllDone exit
+exit_of_first tests others Done AllDone e (Ok value) is h = absurd is
+exit_of_first tests others Done AllDone e (Err error) is h = subst (λ x. IsTested (tests ++ others) AllDone (Err x)) (sym is) (error_of_first tests others Done AllDone e h)
+
+-- the same with an error of the others, where the first pass
+pub exit_of_others : {T U : Type 0} → (tests others : List (Refusal → Type 0)) (Done : T → Type 0) (AllDone : U → Type 0) (e : EditError) (exit : Result U EditError)
+    → IsErrAnd exit (λ error. error ≡ e) → Passes (First tests) → IsTested others Done (Err e) → IsTested (tests ++ others) AllDone exit
+exit_of_others tests others Done AllDone e (Ok value) is passed h = absurd is
+exit_of_others tests others Done AllDone e (Err error) is passed h = subst (λ x. IsTested (tests ++ others) AllDone (Err x)) (sym is) (error_of_others tests others Done AllDone e passed h)

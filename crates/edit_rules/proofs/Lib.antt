@@ -1,0 +1,4 @@
+pub mod FirstLaws
+pub mod NameLemmas
+pub mod OwnerLemmas
+pub mod PrivilegeLemmas

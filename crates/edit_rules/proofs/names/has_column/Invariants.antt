@@ -1,0 +1,7 @@
+use Rattle.std.proofs.Common.{None}
+use Rattle.cat_items.specs.Rights.{path_of, IsColumn}
+use Rattle.grant_chain.proofs.LoopLemmas.{NoneFrom}
+use Rattle.edit_rules.proofs.names.has_column.Given as goal
+
+abbrev pub invariant-loop-at : goal.invariant-loop-at
+invariant-loop-at l = record { none : NoneFrom l.c.items None (IsColumn (path_of l.table) l.name) l.initial.at l.at }

@@ -1,0 +1,7 @@
+use Rattle.std.proofs.Common.{None}
+use Rattle.grant_chain.proofs.LoopLemmas.{NoneFrom}
+use Rattle.edit_rules.specs.Names.{IsConstraint}
+use Rattle.edit_rules.proofs.names.is_constraint_of.Given as goal
+
+abbrev pub invariant-loop-at : goal.invariant-loop-at
+invariant-loop-at l = record { none : NoneFrom l.c.items None (IsConstraint l.name) l.initial.at l.at }

@@ -1,0 +1,63 @@
+//! Privileges that a statement needs.
+
+ghost use Rattle.std.specs.Prelude.{◌↔◌, ◌∷◌, [], IsTrue};
+ghost use Rattle.std.specs.Option.{option_copied};
+ghost use Rattle.role_graph.specs.Roles.{IsRoomFor};
+ghost use Rattle.edit_rules.specs.First.{HasPassed};
+ghost use Rattle.edit_rules.specs.Privileges.{IsBehind, IsLeastUnmet, lacks_privilege};
+
+use cat_items::{Catalogue, EditError, Need, Refusal};
+use grant_chain::met_by;
+use role_graph::{Actor, Walk};
+use sql_tree::{Items, Name};
+use std::alloc::Global;
+
+/// Whether a need doesn't come before the least so far.
+fn is_behind(least: Option<&Need>, need: &Need) -> bool
+    ensures { IsTrue result ↔ IsBehind (option_copied least.entry) need.now }
+{
+    match least {
+        None => false,
+        Some(least) => least.cmp(need).is_le(),
+    }
+}
+
+/// The least of these needs that isn't met for the user or role of this name.
+fn least_unmet<'a>(
+    c: &Catalogue,
+    walk: &mut Walk,
+    owner: &Name,
+    needs: &'a Items<Need>,
+) -> Option<&'a Need>
+    requires { IsRoomFor walk.old c.now.items }
+    ensures { IsLeastUnmet c.now.items owner.now needs.now (option_copied result) }
+{
+    let mut least = None;
+    for need in needs.as_slice() {
+        if !is_behind(least, need)
+            && !met_by(c, None, walk, Actor::Named(owner), need.into(), false)
+        {
+            least = Some(need);
+        }
+    }
+    least
+}
+
+/// Refuses the least of these needs that isn't met for the user or role of this name.
+pub fn test_privileges(
+    alloc: Global,
+    c: &Catalogue,
+    owner: &Name,
+    needs: &Items<Need>,
+) -> Result<(), EditError>
+    ensures { HasPassed (lacks_privilege c.now.items owner.now needs.now ∷ []) result }
+{
+    let mut walk = Walk::new(alloc, c)?;
+    match least_unmet(c, &mut walk, owner, needs) {
+        None => Ok(()),
+        Some(need) => {
+            let need = need.copy()?;
+            Err(EditError::Refused(Refusal::NoPrivilege { need }))
+        }
+    }
+}
