@@ -1,0 +1,15 @@
+use Rattle.std.proofs.Common.{◌≡◌, [], ◌∷◌, ◌∙◌, ap, sym, subst}
+use Rattle.cat_items.specs.declared.item.Schema.{Schema}
+use Rattle.edit_rules.specs.First.{First, Passes}
+use Rattle.edit_rules.specs.Sound.{IsSound}
+use Rattle.define_edit.specs.CreatedSchemas.{adding_schema, schema_of}
+use Rattle.define_edit.proofs.SchemaLemmas.{created_schema, sound_creation}
+use Rattle.define_edit.proofs.schemas.create_schema.Goals as goal
+
+pub returns-clause-tested : goal.returns-clause-tested
+returns-clause-tested c = created_schema c.args.c.now.items c.args.who.now c.args.clause.now c.name_in-name.result.now c.owner_in-owner.result.now c.in_ok-copy.field-0 c.in_ok-copy-2.field-0 c.in_ok-adding_schema.field-0
+    c.name_in-name.ensures c.owner_in-owner.ensures c.in_ok-copy.ensures c.in_ok-copy-2.ensures c.in_ok-adding_schema.ensures c.in_ok-test_schema.ensures.0
+
+pub returns-clause-sound : goal.returns-clause-sound
+returns-clause-sound c = sound_creation c.args.c.now.items c.args.who.now c.name_in-name.result.now c.owner_in-owner.result.now c.in_ok-copy.field-0 c.in_ok-copy-2.field-0 c.in_ok-adding_schema.field-0
+    c.requires c.in_ok-copy.ensures c.in_ok-adding_schema.ensures c.in_ok-test_schema.ensures.0

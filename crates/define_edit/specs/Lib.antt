@@ -1,0 +1,2 @@
+pub mod CreatedSchemas
+pub mod Creations

@@ -1,0 +1,31 @@
+//! Statements that create.
+
+ghost use Rattle.std.specs.Prelude.{IfOk};
+ghost use Rattle.cat_items.specs.Good.{IsGood};
+ghost use Rattle.edit_rules.specs.First.{IsTested};
+ghost use Rattle.edit_rules.specs.Sound.{IsSound};
+ghost use Rattle.define_edit.specs.Creations.{HasForms, IsBuiltCreation, IsCreation, creation_refusals};
+
+use crate::schemas::create_schema;
+use cat_items::{Catalogue, Edit, EditError, Who};
+use sql_tree::Statement;
+use std::alloc::Global;
+
+/// What CREATE SCHEMA adds to a catalogue, or why it is refused (SQL:2003 part 2, 11.1). `Memory` is want of memory.
+pub fn edit_create(
+    alloc: Global,
+    c: &Catalogue,
+    who: &Who,
+    statement: &Statement,
+) -> Result<Edit, EditError>
+    requires good { IsGood c.now.items }
+    requires built { IsBuiltCreation statement.now }
+    requires forms { HasForms statement.now }
+    ensures tested { IsTested (creation_refusals c.now.items who.now statement.now) (IsCreation c.now.items who.now statement.now) result }
+    ensures sound { IfOk result (IsSound c.now.items) }
+{
+    match statement {
+        Statement::CreateSchema(parts) => create_schema(alloc, c, who, &parts.schema),
+        _ => unreachable!(),
+    }
+}

@@ -1,0 +1,9 @@
+//! Statements that define: CREATE SCHEMA and CREATE TABLE, as the edits that they make of a catalogue.
+#![tactic(auto)]
+
+mod creations;
+mod schemas;
+#[cfg(test)]
+mod tests;
+
+pub use creations::edit_create;

@@ -1,0 +1,3 @@
+mod Selections
+mod TableLemmas
+pub mod Settled

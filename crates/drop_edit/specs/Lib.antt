@@ -1,0 +1,2 @@
+pub mod DroppedTables
+pub mod Drops

@@ -1,0 +1,84 @@
+//! DROP TABLE.
+
+ghost use Rattle.std.specs.Prelude.{◌≡◌, ◌↔◌, IfOk, IsTrue};
+ghost use Rattle.cat_items.specs.Good.{IsGood};
+ghost use Rattle.cat_items.specs.Rights as rights;
+ghost use Rattle.edit_rules.specs.First.{IsTested};
+ghost use Rattle.edit_rules.specs.Names as names;
+ghost use Rattle.edit_rules.specs.Sound.{IsSound};
+ghost use Rattle.drop_edit.specs.DroppedTables as spec;
+
+use cat_items::{Catalogue, Edit, EditError, Item, Need, Who};
+use edit_rules::{object_in, path_of, test_base_table, test_owner};
+use sql_tree::{Action, Items, Object, ObjectName, Path};
+use std::alloc::{AllocError, Global};
+
+/// Whether an action is one on tables and views.
+fn is_table_action(action: Action) -> bool
+    ensures { IsTrue result ↔ spec.IsTableAction action }
+{
+    match action {
+        Action::Select | Action::Insert | Action::Update | Action::Delete | Action::References =>
+            true,
+        Action::Usage | Action::Execute | Action::Admin => false,
+    }
+}
+
+/// Whether a need is on the table of this path, or on one of its columns.
+fn is_on_table(need: &Need, table: &Path) -> bool
+    ensures { IsTrue result ↔ spec.IsOnTable table.now need.now }
+{
+    is_table_action(need.action) && need.on.same(table)
+}
+
+/// Whether an item belongs to a table; `path` is that of the table.
+fn belongs(x: &Item, table: &Object, path: &Path) -> bool
+    requires { path.now ≡ rights.path_of table.now }
+    ensures { IsTrue result ↔ spec.BelongsTo table.now x.now }
+{
+    match x {
+        Item::Table(own) => own.get().same(table),
+        Item::Column(column) => column.get().table.same(table),
+        Item::Key(key) => key.get().table.same(table),
+        Item::Foreign(foreign) => foreign.get().table.same(table),
+        Item::Check(check) => check.get().table.same(table),
+        Item::Held(right) => is_on_table(&right.get().need, path),
+        Item::Grantable(right) => is_on_table(&right.get().need, path),
+        _ => false,
+    }
+}
+
+/// All that belongs to a table. It looks at each item of the catalogue.
+pub fn belongings(alloc: Global, c: &Catalogue, table: &Object) -> Result<Items<Item>, AllocError>
+    ensures { IfOk result (λ found. spec.IsSelection c.now.items (spec.BelongsTo table.now) found) }
+{
+    let path = path_of(table)?;
+    let mut found = Items::new(alloc);
+    for x in c.items() {
+        if belongs(x, table, &path) {
+            found.push(x.copy()?)?;
+        }
+    }
+    Ok(found)
+}
+
+/// The edit of DROP TABLE.
+pub fn drop_table(
+    alloc: Global,
+    c: &Catalogue,
+    who: &Who,
+    name: &ObjectName,
+) -> Result<Edit, EditError>
+    requires { IsGood c.now.items }
+    ensures tested { IsTested (spec.drop_table_refusals c.now.items who.now name.now) (spec.IsTableDrop c.now.items (names.object_in who.now.schema name.now)) result }
+    ensures sound { IfOk result (IsSound c.now.items) }
+{
+    let table = object_in(&who.schema, name)?;
+    test_base_table(c, &table)?;
+    test_owner(alloc, c, who, &table.schema)?;
+    Ok(Edit {
+        target: belongings(alloc, c, &table)?,
+        changed: Items::new(alloc),
+        added: Items::new(alloc),
+    })
+}

@@ -1,0 +1,7 @@
+pub mod Creating
+pub mod Granting
+pub mod Options
+pub mod RoleLists
+pub mod Settled
+pub mod Taking
+pub mod Testing

@@ -1,0 +1,31 @@
+-- Admin options that the grantor lacks.
+use Rattle.std.proofs.Common.{◌≡◌, ℕ, List, [], ◌∷◌, ◌++◌, map, Option, subst, sym, inl}
+use Rattle.std.specs.declared.result.Result.TheVariants.{Err}
+use Rattle.sql_tree.specs.declared.rights.Grantor.{Grantor}
+use Rattle.cat_items.specs.declared.edit.EditError.{EditError}
+use Rattle.cat_items.specs.declared.edit.EditError.TheVariants.{Refused, Memory}
+use Rattle.cat_items.specs.declared.edit.Refusal.{Refusal}
+use Rattle.cat_items.specs.declared.edit.Who.{Who}
+use Rattle.cat_items.specs.declared.item.Item.{Item}
+use Rattle.cat_items.specs.declared.need.Need.{Need}
+use Rattle.cat_items.specs.Rights.{admin}
+use Rattle.edit_rules.specs.First.{First, Passes, IsTested, HasPassed}
+use Rattle.edit_rules.specs.Grantors.{IsGrantor}
+use Rattle.edit_rules.specs.Privileges.{lacks_privilege}
+use Rattle.edit_rules.proofs.FirstLaws.{first_left, first_right, passes_one, passes_that}
+use Rattle.role_edit.specs.GrantedRoles.{lacks_admin_option}
+use Rattle.role_edit.proofs.Settled.{grantor_settled}
+use Rattle.role_edit.proofs.Testing.{one_refuses}
+
+-- where all tests pass, so do the later ones
+pub passes_behind : (a b : List (Refusal → Type 0)) → Passes (First (a ++ b)) → Passes (First b)
+passes_behind a b all r h = all r (first_right a b r (λ other first. all other (first_left a b other first)) h)
+
+module _ (c : List Item) (who : Who) (by : Option Grantor) (roles : List (List ℕ)) (grantor : List ℕ) (is : IsGrantor c who by grantor) where
+  pub lacks_option : {T U : Type 0} (needs : List Need) (Done : T → Type 0) (Other : U → Type 0) (e : EditError) → needs ≡ map admin roles → IsTested (lacks_privilege c grantor needs ∷ []) Done (Err e) → IsTested (lacks_admin_option c who by roles ∷ []) Other (Err e)
+  lacks_option needs Done Other (Refused r) same h = (inl (grantor, is, subst (λ n. lacks_privilege c grantor n r) same (one_refuses (lacks_privilege c grantor needs) r h.0)), tt)
+  lacks_option needs Done Other Memory same h = tt
+
+  pub has_options : (needs : List Need) → needs ≡ map admin roles → Passes (First (lacks_privilege c grantor needs ∷ [])) → Passes (First (lacks_admin_option c who by roles ∷ []))
+  has_options needs same passed = passes_one (lacks_admin_option c who by roles) (λ r h. passes_that (lacks_privilege c grantor needs) passed r
+      (subst (λ n. lacks_privilege c grantor n r) (sym same) (subst (λ n. lacks_privilege c n (map admin roles) r) (grantor_settled c who by h.0 grantor h.1 is) h.2)))

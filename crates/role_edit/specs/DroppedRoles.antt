@@ -1,0 +1,29 @@
+-- DROP ROLE (drop role statement, SQL:2003 part 2, 12.6).
+use Rattle.std.specs.Prelude.{◌≡◌, ◌⊎◌, ℕ, List, [], ◌∷◌}
+use Rattle.cat_items.specs.declared.edit.Edit.{Edit}
+use Rattle.cat_items.specs.declared.edit.Refusal.{Refusal}
+use Rattle.cat_items.specs.declared.edit.Who.{Who}
+use Rattle.cat_items.specs.declared.item.Item.{Item}
+use Rattle.cat_items.specs.declared.item.Item.TheVariants.{Role, RoleAuth, RoleAdmin, Held, Grantable}
+use Rattle.cat_items.specs.declared.need.Auth.TheVariants.{Named}
+use Rattle.cat_items.specs.Rights.{admin}
+use Rattle.edit_lists.specs.Chosen.{IsTaking}
+use Rattle.edit_rules.specs.Names.{unknown_role}
+use Rattle.edit_rules.specs.Privileges.{lacks_privilege}
+
+-- the user needs an admin option of the role
+abbrev pub drop_role_refusals : List Item → Who → List ℕ → List (Refusal → Type 0)
+drop_role_refusals c who role = unknown_role c role ∷ lacks_privilege c who.user (admin role ∷ []) ∷ []
+
+-- the role, the grants of it and to it, and the privileges that were granted to it
+abbrev pub IsOfRole : List ℕ → Item → Type 0
+IsOfRole role (Role n) = n ≡ role
+IsOfRole role (RoleAuth g) = (g.role ≡ role) ⊎ (g.grantee ≡ role)
+IsOfRole role (RoleAdmin g) = (g.role ≡ role) ⊎ (g.grantee ≡ role)
+IsOfRole role (Held r) = r.grantee ≡ Named role
+IsOfRole role (Grantable r) = r.grantee ≡ Named role
+IsOfRole role x = ⊥
+
+-- these are taken
+abbrev pub IsRoleDrop : List Item → List ℕ → Edit → Type 0
+IsRoleDrop c role edit = IsTaking c (IsOfRole role) edit
