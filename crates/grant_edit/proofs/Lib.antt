@@ -1,0 +1,9 @@
+pub mod GrantLemmas
+pub mod LeastLemmas
+pub mod Lists
+pub mod NamedLemmas
+pub mod RevokeLemmas
+pub mod RightLemmas
+pub mod Soundness
+pub mod StatementLemmas
+pub mod TestLists

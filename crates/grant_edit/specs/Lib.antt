@@ -1,0 +1,5 @@
+pub mod Grants
+pub mod Named
+pub mod Revokes
+pub mod Statements
+pub mod Targets

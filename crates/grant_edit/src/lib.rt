@@ -1,0 +1,14 @@
+//! GRANT and REVOKE of privileges, as the edits that they make of a catalogue.
+#![tactic(auto)]
+
+mod grants;
+mod named;
+mod revokes;
+mod rights;
+mod statements;
+mod targets;
+#[cfg(test)]
+mod tests;
+
+pub use grants::Granting;
+pub use statements::{edit_grant, edit_revoke};
