@@ -1,0 +1,4 @@
+pub mod NamedLemmas
+pub mod PassedLemmas
+pub mod RepeatLemmas
+pub mod TestLists

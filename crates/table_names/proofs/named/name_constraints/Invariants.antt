@@ -1,0 +1,8 @@
+use Rattle.std.proofs.Common.{[], take}
+use Rattle.table_parts.specs.Parts.{constraints_of}
+use Rattle.table_names.specs.Given.{given_names}
+use Rattle.table_names.specs.Named.{AreNamed, IsFree}
+use Rattle.table_names.proofs.named.name_constraints.Given as goal
+
+abbrev pub invariant-loop-part : goal.invariant-loop-part
+invariant-loop-part l = record { names : AreNamed (IsFree l.c.items l.schema (given_names l.parts)) [] (constraints_of (take l.part-index l.parts)) l.named }

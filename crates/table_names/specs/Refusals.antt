@@ -1,0 +1,37 @@
+-- Refusals of CREATE TABLE by names and owners, in their order.
+use Rattle.std.specs.Prelude.{◌≡◌, ℕ, List, [], ◌∷◌, ◌++◌, map}
+use Rattle.sql_tree.specs.declared.object.Object.{Object}
+use Rattle.cat_items.specs.declared.edit.Refusal.{Refusal}
+use Rattle.cat_items.specs.declared.edit.Refusal.TheVariants.{Repeated}
+use Rattle.cat_items.specs.declared.edit.Who.{Who}
+use Rattle.cat_items.specs.declared.item.Item.{Item}
+use Rattle.cat_items.specs.Rights.{path_of}
+use Rattle.edit_rules.specs.Names.{constraint_exists, table_exists}
+use Rattle.edit_rules.specs.Owners.{not_owner}
+use Rattle.table_parts.specs.declared.marks.Mark.{Mark}
+use Rattle.table_parts.specs.declared.marks.Mark.TheVariants as marks
+use Rattle.table_parts.specs.declared.parts.Part.{Part}
+use Rattle.table_parts.specs.Marks.{IsRepeated, marks_in}
+use Rattle.table_names.specs.Given.{given_names, unknown_names}
+
+-- what is told of something that comes twice: its name, and of a second PRIMARY KEY the table
+abbrev pub told : Object → Mark → List (List ℕ)
+told made (marks.Column name) = name ∷ []
+told made (marks.Constraint name) = name ∷ []
+told made marks.Primary = path_of made
+told made (marks.Own at name) = name ∷ []
+told made (marks.Target at name) = name ∷ []
+
+abbrev pub repeated : Object → List Part → Refusal → Type 0
+repeated made parts refusal = (mark : Mark) × IsRepeated (marks_in parts) mark × (refusal ≡ Repeated (told made mark))
+
+-- a constraint or an assertion of the schema has the name
+abbrev pub exists_in : List Item → List ℕ → List ℕ → Refusal → Type 0
+exists_in c schema name = constraint_exists c (record { schema = schema; name = name })
+
+-- taken names: the table, and then its constraints
+abbrev pub taken_names : List Item → Object → List Part → List (Refusal → Type 0)
+taken_names c made parts = table_exists c made ∷ map (exists_in c made.schema) (given_names parts)
+
+abbrev pub name_refusals : List Item → Who → Object → List Part → List (Refusal → Type 0)
+name_refusals c who made parts = repeated made parts ∷ unknown_names c who made parts ++ (not_owner c who made.schema ∷ taken_names c made parts)

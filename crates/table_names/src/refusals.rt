@@ -1,0 +1,93 @@
+//! Refusals by names and owners.
+
+ghost use Rattle.std.specs.Prelude.{◌≡◌, ◌∷◌, [], IfOk, OnOk, map};
+ghost use Rattle.edit_rules.specs.First.{HasPassed};
+ghost use Rattle.table_parts.specs.Marks.{Differ, marks_in};
+ghost use Rattle.table_names.specs.Given.{given_names};
+ghost use Rattle.table_names.specs.Refusals as spec;
+
+use crate::given::test_known;
+use crate::named;
+use cat_items::{Catalogue, EditError, Refusal, Who};
+use edit_rules::{path_of, test_new_constraint, test_new_table, test_owner};
+use sql_tree::{Items, Name, Object, Path};
+use std::alloc::{AllocError, Global};
+use table_parts::{Mark, Part, first_repeated, marks_of};
+
+/// What is told of something that comes twice.
+fn told(made: &Object, mark: &Mark) -> Result<Path, AllocError>
+    ensures { IfOk result (λ path. path ≡ spec.told made.now mark.now) }
+{
+    match mark {
+        Mark::Column(name) | Mark::Constraint(name) => Ok(Path::one(name.copy()?)),
+        Mark::Primary => path_of(made),
+        Mark::Own { name, .. } | Mark::Target { name, .. } => Ok(Path::one(name.copy()?)),
+    }
+}
+
+/// Refuses what comes twice, first in reading order.
+fn test_repeated(alloc: Global, made: &Object, parts: &Items<Part>) -> Result<(), EditError>
+    ensures tested { HasPassed (spec.repeated made.now parts.now ∷ []) result }
+    ensures differ { OnOk result (Differ (marks_in parts.now)) }
+{
+    let marks = marks_of(alloc, parts)?;
+    match first_repeated(&marks) {
+        None => Ok(()),
+        Some(mark) => {
+            let path = told(made, mark)?;
+            Err(EditError::Refused(Refusal::Repeated { path }))
+        }
+    }
+}
+
+/// Refuses a name that a constraint of the schema has.
+fn test_constraint(c: &Catalogue, schema: &Name, name: &Name) -> Result<(), EditError>
+    ensures { HasPassed (spec.exists_in c.now.items schema.now name.now ∷ []) result }
+{
+    let name = Object {
+        schema: schema.copy()?,
+        name: name.copy()?,
+    };
+    test_new_constraint(c, &name)
+}
+
+/// Refuses the first of these names that a constraint of the schema has.
+fn test_constraints(c: &Catalogue, schema: &Name, names: &Items<Name>) -> Result<(), EditError>
+    ensures { HasPassed (map (spec.exists_in c.now.items schema.now) names.now) result }
+{
+    for name in names.as_slice() {
+        test_constraint(c, schema, name)?;
+    }
+    Ok(())
+}
+
+/// Refuses names that are taken: the table's, and then those given to its constraints.
+fn test_taken(
+    alloc: Global,
+    c: &Catalogue,
+    made: &Object,
+    parts: &Items<Part>,
+) -> Result<(), EditError>
+    ensures { HasPassed (spec.taken_names c.now.items made.now parts.now) result }
+{
+    test_new_table(c, made)?;
+    let names = named::given_names(alloc, parts)?;
+    test_constraints(c, &made.schema, &names)
+}
+
+/// Refuses CREATE TABLE by names that come twice, that don't stand or that are taken, and by its schema's owner.
+pub fn test_names(
+    alloc: Global,
+    c: &Catalogue,
+    who: &Who,
+    made: &Object,
+    parts: &Items<Part>,
+) -> Result<(), EditError>
+    ensures tested { HasPassed (spec.name_refusals c.now.items who.now made.now parts.now) result }
+    ensures differ { OnOk result (Differ (marks_in parts.now)) }
+{
+    test_repeated(alloc, made, parts)?;
+    test_known(c, who, made, parts)?;
+    test_owner(alloc, c, who, &made.schema)?;
+    test_taken(alloc, c, made, parts)
+}

@@ -1,0 +1,4 @@
+pub mod Classes
+pub mod Columns
+pub mod Marks
+pub mod Parts
