@@ -1,6 +1,5 @@
 -- The least of some privileges.
-use Rattle.std.proofs.Common.{◌≡◌, ◌≢◌, ◌⊎◌, ◌↔◌, inl, inr, ℕ, List, [], ◌∷◌, ◌++◌, Option, Some, None, Ordering, take, true, ap, sym, subst, refl, ◌∙◌}
-use Rattle.std.specs.List.{Contains}
+use Rattle.std.proofs.Common.{◌≡◌, ◌≢◌, ◌↔◌, inl, inr, List, [], ◌∷◌, ◌++◌, Option, Some, None, Ordering, take, true, ap, sym, subst, refl, ◌∙◌}
 use Rattle.std.specs.Ordering.{is_le, ordering_reverse}
 use Rattle.std.specs.declared.cmp.Ordering.TheVariants.{Less, Equal, Greater}
 use Rattle.std.proofs.lemmas.Cmp.{tied_itself}
@@ -8,7 +7,7 @@ use Rattle.finite_chains.proofs.Members.{Contains-nil}
 use Rattle.cat_items.specs.declared.need.Need.{Need}
 use Rattle.cat_items.specs.Order.{need_cmp}
 use Rattle.cat_items.proofs.OrderLemmas.{need_cmp-total}
-use Rattle.edit_rules.specs.Privileges.{IsBehind, IsLeastNeed}
+use Rattle.edit_rules.specs.Privileges.{IsBehind}
 use Rattle.grant_edit.specs.Named.{IsLeastOf}
 use Rattle.grant_edit.proofs.Lists.{contains_push}
 

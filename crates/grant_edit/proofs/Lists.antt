@@ -1,13 +1,13 @@
 -- Lists that loops go through.
-use Rattle.std.proofs.Common.{◌==◌, Bool, true, false, not, Option, Some, None, ◌≡◌, ◌≢◌, ◌⊎◌, ◌↔◌, inl, inr, ℕ, zero, suc, ◌+◌, ◌<◌, ◌≤◌, List, [], ◌∷◌, ◌++◌, length, take, drop, get_or, map, append_assoc, sym, ap, subst, refl, ◌∙◌, arith}
-use Rattle.std.specs.List.{Contains, flat_map, All}
+use Rattle.std.proofs.Common.{◌==◌, Bool, true, false, not, Option, Some, None, ◌≡◌, ◌⊎◌, ◌↔◌, inl, inr, ℕ, ◌+◌, ◌<◌, ◌≤◌, List, [], ◌∷◌, ◌++◌, length, take, get_or, map, append_assoc, sym, ap, subst, refl, ◌∙◌}
+use Rattle.std.specs.List.{Contains, flat_map}
 use Rattle.std.specs.Option.{is_some}
 use Rattle.std.specs.Result.{OnOk}
 use Rattle.std.specs.declared.result.Result.{Result}
 use Rattle.std.specs.declared.result.Result.TheVariants.{Ok, Err}
 use Rattle.std.proofs.lemmas.List.{take_more, take_all, append-nil, map-append}
 use Rattle.std.proofs.lemmas.List.Concat.{flat_map-append}
-use Rattle.std.proofs.lemmas.List.Elements.{Contains-get_or, Contains-append_left, Contains-append_right, Contains-append_cases, Contains-push, Contains-push_cases}
+use Rattle.std.proofs.lemmas.List.Elements.{Contains-append_left, Contains-append_right, Contains-append_cases, Contains-push, Contains-push_cases}
 use Rattle.finite_chains.proofs.Members.{Contains-nil, Contains-head, Contains-tail, Contains-cases}
 
 module _ {X : Type 0} (xs shown : List X) (i : ℕ) (same : shown ≡ xs) where

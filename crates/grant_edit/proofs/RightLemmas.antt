@@ -1,5 +1,5 @@
 -- Rights with one key are one, and the rights that are added.
-use Rattle.std.proofs.Common.{◌≡◌, ◌≢◌, ◌⊎◌, ◌↔◌, inl, inr, ℕ, zero, suc, ◌+◌, ◌<◌, ◌≤◌, Bool, true, false, List, [], ◌∷◌, ◌++◌, Option, Some, None, Err, Ordering, IsTrue, take, length, get_or, map, ap, sym, subst, refl, ◌∙◌, arith}
+use Rattle.std.proofs.Common.{◌≡◌, ◌⊎◌, ◌↔◌, inl, inr, ℕ, zero, suc, ◌<◌, ◌≤◌, Bool, true, false, List, [], ◌∷◌, ◌++◌, Option, Some, None, Err, Ordering, take, length, get_or, ap, sym, subst, refl, ◌∙◌}
 use Rattle.std.specs.List.{Contains, insert}
 use Rattle.std.specs.List.Sorted.{IsBinarySearchResult}
 use Rattle.std.specs.Ordering.{nat_cmp, ordering_then}
@@ -11,7 +11,6 @@ use Rattle.finite_chains.proofs.Members.{Contains-nil, Contains-head}
 use Rattle.sql_tree.specs.Names.{name_cmp-IsAntisymmetric}
 use Rattle.sql_tree.specs.declared.rights.Action.{Action}
 use Rattle.sql_tree.specs.declared.rights.Action.TheVariants as actions
-use Rattle.sql_tree.specs.declared.rights.Grantee.{Grantee}
 use Rattle.cat_items.specs.declared.need.Auth.{Auth}
 use Rattle.cat_items.specs.declared.need.Auth.TheVariants.{System, Public, Named}
 use Rattle.cat_items.specs.declared.need.Need.{Need}
@@ -23,7 +22,6 @@ use Rattle.cat_items.specs.Fit.{IsRight}
 use Rattle.cat_items.specs.Order.{name_cmp, auth_cmp, action_number, need_cmp, right_cmp, item_cmp}
 use Rattle.cat_items.proofs.CatalogueLemmas.{IsInOrder-insert, cut_at_gap, none_at}
 use Rattle.grant_edit.specs.Grants.{IsGrant, IsGrantTo, IsOfRight}
-use Rattle.grant_edit.specs.Named.{grantee_auth, named_grantees}
 use Rattle.grant_edit.proofs.Lists.{contains_both, contains_one, contains_push}
 use Rattle.grant_edit.proofs.NamedLemmas.{same_need}
 

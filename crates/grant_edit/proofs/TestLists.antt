@@ -7,7 +7,7 @@ use Rattle.std.proofs.lemmas.List.{take-append-drop, append-nil}
 use Rattle.cat_items.specs.declared.edit.EditError.{EditError}
 use Rattle.cat_items.specs.declared.edit.Refusal.{Refusal}
 use Rattle.edit_rules.specs.First.{First, IsTested, Passes}
-use Rattle.edit_rules.proofs.FirstLaws.{passes_none, passes_both, error_of_first, error_of_others}
+use Rattle.edit_rules.proofs.FirstLaws.{passes_both, error_of_first, error_of_others}
 use Rattle.grant_edit.specs.Targets.{tests_of_each}
 use Rattle.grant_edit.proofs.Lists.{take_next, take_whole}
 

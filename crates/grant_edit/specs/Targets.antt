@@ -1,5 +1,5 @@
 -- What GRANT and REVOKE of privileges name, and refusals by names that don't stand.
-use Rattle.std.specs.Prelude.{◌≡◌, ℕ, List, [], ◌∷◌, ◌++◌, Option, Some, None, map}
+use Rattle.std.specs.Prelude.{◌≡◌, List, [], ◌∷◌, ◌++◌, Option, Some, None, map}
 use Rattle.sql_tree.specs.declared.object.Object.{Object}
 use Rattle.sql_tree.specs.declared.rights.Grantee.{Grantee}
 use Rattle.sql_tree.specs.declared.rights.Grantee.TheVariants as grantee

@@ -68,11 +68,7 @@ fn push_privilege(
 }
 
 /// The privileges that a list names.
-fn listed(
-    alloc: Global,
-    object: &Object,
-    all: &Items<Privilege>,
-) -> Result<Vec<Need>, AllocError>
+fn listed(alloc: Global, object: &Object, all: &Items<Privilege>) -> Result<Vec<Need>, AllocError>
     ensures { IfOk result (λ needs. needs.items ≡ flat_map (λ (p : Privilege). spec.privilege_on object.now p.action p.columns) all.now) }
 {
     let mut needs = Vec::new(alloc);
@@ -96,11 +92,7 @@ fn all_on_table(alloc: Global, object: &Object) -> Result<Vec<Need>, AllocError>
 }
 
 /// The one privilege on an object of another kind.
-fn all_on_other(
-    alloc: Global,
-    action: Action,
-    object: &Object,
-) -> Result<Vec<Need>, AllocError>
+fn all_on_other(alloc: Global, action: Action, object: &Object) -> Result<Vec<Need>, AllocError>
     ensures { IfOk result (λ needs. needs.items ≡ object_need action object.now ∷ []) }
 {
     let mut needs = Vec::new(alloc);
@@ -163,7 +155,11 @@ fn least(needs: &Vec<Need>) -> Option<&Need>
 pub fn refused<'a>(named: &'a Vec<Need>, granted: &Vec<Need>) -> Option<&'a Need>
     ensures { spec.IsRefused named.now.items granted.now.items (option_copied result) }
 {
-    if granted.as_slice().is_empty() { least(named) } else { None }
+    if granted.as_slice().is_empty() {
+        least(named)
+    } else {
+        None
+    }
 }
 
 /// To whom a grantee's privileges are.

@@ -99,11 +99,7 @@ fn test_list(c: &Catalogue, object: &Object, names: &Items<Name>) -> Result<(), 
 }
 
 /// Refuses the first column of all lists that doesn't stand.
-fn test_lists(
-    c: &Catalogue,
-    object: &Object,
-    listed: &Items<Privilege>,
-) -> Result<(), EditError>
+fn test_lists(c: &Catalogue, object: &Object, listed: &Items<Privilege>) -> Result<(), EditError>
     ensures { HasPassed (spec.tests_of_each (λ (p : Privilege). map (unknown_column c.now.items object.now) p.columns) listed.now) result }
 {
     for privilege in listed.as_slice() {
@@ -113,11 +109,7 @@ fn test_lists(
 }
 
 /// Refuses the first column that is named and doesn't stand.
-fn test_columns(
-    c: &Catalogue,
-    object: &Object,
-    privileges: &Privileges,
-) -> Result<(), EditError>
+fn test_columns(c: &Catalogue, object: &Object, privileges: &Privileges) -> Result<(), EditError>
     ensures { HasPassed (spec.unknown_columns c.now.items object.now privileges.now) result }
 {
     match privileges {

@@ -159,18 +159,23 @@ fn nothing_is_granted(rt: HostRuntime) -> Result<(), Fail> {
     Ok(())
 }
 
-#[test]
-fn what_is_granted_is_revoked(rt: HostRuntime) -> Result<(), Fail> {
-    let alloc = rt.alloc();
-    let mut c = small(alloc)?;
+/// What ALICE grants of all privileges to BOB.
+fn all_to_bob(alloc: Global) -> Result<Granting, Fail> {
     match granting(alloc, Privileges::All, "BOB")? {
-        Ok(granting) => {
-            for x in granting.edit.added.as_slice() {
-                put(&mut c, x.copy()?)?;
-            }
-        }
-        Err(_) => return Err(Fail::from("SELECT can be granted")),
+        Ok(granting) => Ok(granting),
+        Err(_) => Err(Fail::from("SELECT can be granted")),
     }
+}
+
+fn put_all(c: &mut Catalogue, items: &Items<Item>) -> Result<(), AllocError> {
+    for x in items.as_slice() {
+        put(c, x.copy()?)?;
+    }
+    Ok(())
+}
+
+/// How many rights ALICE takes back from BOB by SELECT and DELETE.
+fn revoked(alloc: Global, c: &Catalogue) -> Result<usize, Fail> {
     let parts = RevokePrivileges {
         option_alone: false,
         privileges: listed(alloc, Action::Select, Action::Delete)?,
@@ -179,9 +184,19 @@ fn what_is_granted_is_revoked(rt: HostRuntime) -> Result<(), Fail> {
         grantor: None,
         behaviour: Behaviour::Restrict,
     };
-    match revoke(alloc, &c, &alice(alloc)?, &parts) {
-        Ok(edit) => assert_eq!(rt; edit.target.len(), 2),
-        Err(_) => return Err(Fail::from("REVOKE needs no right")),
+    match revoke(alloc, c, &alice(alloc)?, &parts) {
+        Ok(edit) => Ok(edit.target.len()),
+        Err(_) => Err(Fail::from("REVOKE needs no right")),
     }
+}
+
+#[test]
+fn what_is_granted_is_revoked(rt: HostRuntime) -> Result<(), Fail> {
+    let alloc = rt.alloc();
+    let mut c = small(alloc)?;
+    assert_eq!(rt; revoked(alloc, &c)?, 0);
+    let granting = all_to_bob(alloc)?;
+    put_all(&mut c, &granting.edit.added)?;
+    assert_eq!(rt; revoked(alloc, &c)?, 2);
     Ok(())
 }

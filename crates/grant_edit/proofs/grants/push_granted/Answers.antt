@@ -31,8 +31,8 @@ returns-clause-members c n =
     let pushed : c.push.new.self.items ≡ old ++ need ∷ [] = c.in_ok-push.ensures.items ∙ ap (λ (m : Need). old ++ m ∷ []) c.in_ok-copy.ensures in
     subst (λ l. Contains l n ↔ (Contains old n ⊎ IsGranted items grantor object (need ∷ []) n)) (sym pushed)
     (without_columns items grantor object old need
-      (λ none columns. elim c.else-is_none.branch [
-        | else-is_none-via-then-is_none+else-is_on_columns w ↦ both_ways _ w.if-is_on_columns.false (w.is_on_columns.ensures.1 columns)
-        | else-is_none-via-else-is_none w ↦ some_if need.column c.is_none.result c.is_none.ensures w.if-is_none.false none
-      ])
-      c.requires.can n)
+    (λ none columns. elim c.else-is_none.branch [
+      | else-is_none-via-then-is_none+else-is_on_columns w ↦ both_ways _ w.if-is_on_columns.false (w.is_on_columns.ensures.1 columns)
+      | else-is_none-via-else-is_none w ↦ some_if need.column c.is_none.result c.is_none.ensures w.if-is_none.false none
+    ])
+    c.requires.can n)

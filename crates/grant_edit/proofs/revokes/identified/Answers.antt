@@ -2,7 +2,6 @@ use Rattle.std.proofs.Common.{[], ◌∷◌, ◌++◌, ◌+◌, ◌≡◌, drop,
 use Rattle.std.proofs.lemmas.Bool.{both_ways}
 use Rattle.std.proofs.lemmas.List.{take-append-drop}
 use Rattle.cat_items.specs.declared.item.Item.{Item}
-use Rattle.cat_items.specs.Catalogues.{IsInOrder}
 use Rattle.grant_edit.specs.Named.{named_grantees}
 use Rattle.grant_edit.specs.Revokes.{IsIdentified}
 use Rattle.grant_edit.proofs.Lists.{take_next, take_whole}

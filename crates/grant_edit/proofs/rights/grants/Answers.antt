@@ -1,4 +1,4 @@
-use Rattle.std.proofs.Common.{[], ◌∷◌, ◌++◌, ◌+◌, ◌↔◌, take, sym, subst}
+use Rattle.std.proofs.Common.{◌↔◌, take, sym, subst}
 use Rattle.std.specs.List.{Contains}
 use Rattle.cat_items.specs.declared.item.Item.{Item}
 use Rattle.grant_edit.specs.Grants.{IsGrant}
@@ -16,7 +16,7 @@ loop-need-preserved c =
     record {
       order = c.in_ok-put_privilege.ensures.order;
       members = subst (λ l. (y : Item) → Contains new y ↔ IsGrant (Contains l) c.args.grantor.now whom c.args.option y) (sym next)
-      (of_one_more c.args.grantor.now c.args.option (take c.loop-need.need-index needs) c.need-item.result whom c.loop-need.items.items new c.loop-need.invariant.members c.in_ok-put_privilege.ensures.members);
+          (of_one_more c.args.grantor.now c.args.option (take c.loop-need.need-index needs) c.need-item.result whom c.loop-need.items.items new c.loop-need.invariant.members c.in_ok-put_privilege.ensures.members);
     }
 
 pub returns-clause-members : goal.returns-clause-members

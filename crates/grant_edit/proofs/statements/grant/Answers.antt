@@ -16,7 +16,7 @@ returns-in_err-grantor-clause-tested c =
     let done : Unit {0} → Type 0 = λ v. Unit {0} in
     exit_as (granting_refusals items c.args.who.now c.args.parts.now) (Grants items c.args.who.now c.args.parts.now) c.in_err-grantor.field-0.0 c.from_residual-in_err-grantor.result c.from_residual-in_err-grantor.ensures.1
     (grant_without_role items c.args.who.now c.args.parts.now c.in_ok-object.object c.in_ok-object.ensures (IsGrantor items c.args.who.now c.args.parts.now.grantor) c.in_err-grantor.field-0.0
-      (names_pass items c.args.who.now c.args.parts.now c.in_ok-object.object c.in_ok-object.ensures done tt c.in_ok-test_names.ensures) c.in_err-grantor.ensures)
+    (names_pass items c.args.who.now c.args.parts.now c.in_ok-object.object c.in_ok-object.ensures done tt c.in_ok-test_names.ensures) c.in_err-grantor.ensures)
 
 pub returns-clause-tested : goal.returns-clause-tested
 returns-clause-tested c =

@@ -1,9 +1,8 @@
-use Rattle.std.proofs.Common.{◌≡◌, [], ◌∷◌, List, subst, sym}
+use Rattle.std.proofs.Common.{[], ◌∷◌, List, subst}
 use Rattle.std.specs.List.{Contains}
 use Rattle.cat_items.specs.declared.need.Need.{Need}
 use Rattle.edit_rules.specs.First.{First, Passes}
 use Rattle.grant_edit.specs.Grants.{grants_nothing}
-use Rattle.grant_edit.specs.Statements.{GrantsBy}
 use Rattle.grant_edit.proofs.NamedLemmas.{named_is_on}
 use Rattle.grant_edit.proofs.StatementLemmas.{grants_are_sound, grants_by}
 use Rattle.grant_edit.proofs.statements.grant_by.Goals as goal

@@ -1,4 +1,4 @@
-use Rattle.std.proofs.Common.{[], ◌∷◌, inl, sym, subst}
+use Rattle.std.proofs.Common.{inl, sym, subst}
 use Rattle.cat_items.specs.declared.edit.Refusal.TheVariants.{NoPrivilege}
 use Rattle.cat_items.specs.declared.need.Need.{Need}
 use Rattle.grant_edit.specs.Grants.{grants_nothing}
@@ -22,6 +22,6 @@ returns-in_ok-need-in-Some c =
     let items = c.args.c.now.items in
     let named = c.args.named.now.items in (
       inl (subst (λ (n : Need). grants_nothing items c.args.grantor.now named (NoPrivilege n)) (sym c.in_ok-need-in-Some.ensures)
-        (refuses_nothing items c.args.grantor.now c.args.object.now named _ c.in_ok-granted.ensures.members _ c.in-Some.ensures.0 c.in-Some.ensures.1)),
+          (refuses_nothing items c.args.grantor.now c.args.object.now named _ c.in_ok-granted.ensures.members _ c.in-Some.ensures.0 c.in-Some.ensures.1)),
       tt,
     )

@@ -1,4 +1,4 @@
-use Rattle.std.proofs.Common.{ℕ, List, [], ◌∷◌}
+use Rattle.std.proofs.Common.{[], ◌∷◌}
 use Rattle.grant_edit.specs.Targets.{unknown_grantee}
 use Rattle.grant_edit.proofs.TestLists.{one_exit_at, one_pass_all, pass_more}
 use Rattle.grant_edit.proofs.targets.test_grantees.Goals as goal

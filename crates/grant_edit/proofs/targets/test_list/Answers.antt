@@ -1,5 +1,4 @@
-use Rattle.std.proofs.Common.{ℕ, List, [], ◌∷◌}
-use Rattle.cat_items.specs.declared.edit.Refusal.{Refusal}
+use Rattle.std.proofs.Common.{[], ◌∷◌}
 use Rattle.edit_rules.specs.Names.{unknown_column}
 use Rattle.grant_edit.proofs.TestLists.{one_exit_at, one_pass_all, pass_more}
 use Rattle.grant_edit.proofs.targets.test_list.Goals as goal

@@ -1,6 +1,6 @@
-use Rattle.std.proofs.Common.{List, [], ◌∷◌, map}
+use Rattle.std.proofs.Common.{[], ◌∷◌, map}
 use Rattle.cat_items.specs.declared.edit.Refusal.{Refusal}
-use Rattle.edit_rules.proofs.FirstLaws.{error_of_first, exit_of_first, exit_of_others, passes_both, tested_by_others}
+use Rattle.edit_rules.proofs.FirstLaws.{error_of_first, exit_of_first, exit_of_others, tested_by_others}
 use Rattle.grant_edit.specs.Targets.{unknown_columns, unknown_grantee, unknown_target}
 use Rattle.grant_edit.proofs.targets.test_names.Goals as goal
 
