@@ -1,9 +1,5 @@
 pub mod Answering
 pub mod Decided
-pub mod FirstLaws
 pub mod HistoryLaws
-pub mod NewCatalogues
-pub mod Owners
 pub mod SessionLaws
 pub mod Settled
-pub mod UsersAndSchemas

@@ -1,32 +1,28 @@
 -- A state, a session and a text settle the reply and the next state.
-use Rattle.std.proofs.Common.{◌≡◌, ℕ, List, [], ◌∷◌, Some, length, sym, ◌∙◌, ap, subst, inl, inr}
-use Rattle.sql_tree.specs.declared.statement.SchemaNameClause.{SchemaNameClause}
+use Rattle.std.proofs.Common.{◌≡◌, ℕ, List, [], ◌∷◌, Option, Some, sym, ◌∙◌, ap, subst, inl, inr}
 use Rattle.sql_tree.specs.declared.statement.Statement.{Statement}
-use Rattle.sql_tree.specs.declared.statement.Statement.TheVariants.{Connect, SetConnection, Disconnect, SetSchema, CreateSchema}
+use Rattle.sql_tree.specs.declared.statement.Statement.TheVariants.{Connect, SetConnection, Disconnect, SetSchema, SetRole}
 use Rattle.sql_grammar.specs.StatementRules.{Grammar}
 use Rattle.sql_grammar.proofs.StatementProofs.{only}
-use Rattle.cat_items.specs.declared.edit.Edit.{Edit}
 use Rattle.cat_items.specs.declared.edit.Refusal.{Refusal}
-use Rattle.cat_items.specs.declared.edit.Refusal.TheVariants.{BadToken, CatalogFull}
+use Rattle.cat_items.specs.declared.edit.Refusal.TheVariants.{BadToken}
 use Rattle.cat_items.specs.declared.edit.Who.{Who}
-use Rattle.cat_items.specs.declared.item.Item.{Item}
 use Rattle.cat_items.specs.declared.limits.Limits.{Limits}
-use Rattle.cat_items.specs.Edits.{IsNew}
+use Rattle.edit_rules.specs.First.{First}
+use Rattle.edit_rules.proofs.FirstLaws.{IsSettled, AreSettled, first_settled}
+use Rattle.catalogue_edits.specs.declared.warning.Warning.{Warning}
+use Rattle.catalogue_edits.specs.Revisions.{IsRevised, revision_refusals}
+use Rattle.catalogue_edits.proofs.Settled.{refusal_settled, revision_settled}
 use Rattle.cat_engine.specs.Contents.{Content, State}
-use Rattle.cat_engine.specs.CreatedSchemas.{create_schema_refusals, create_schema_edit}
-use Rattle.cat_engine.specs.Effects.{Changes, Edits, success}
-use Rattle.cat_engine.specs.First.{First}
+use Rattle.cat_engine.specs.Effects.{Changes, Revises, success}
 use Rattle.cat_engine.specs.Histories.{IsAfter, IsReplyAt}
-use Rattle.cat_engine.specs.LimitRefusals.{too_many_items}
-use Rattle.cat_engine.specs.Refusals.{for_current, for_statement, statement_refusals, text_refusals}
+use Rattle.cat_engine.specs.Refusals.{for_current, for_statement, edit_refusals, invalid_role, role_chosen, statement_refusals, text_refusals}
 use Rattle.cat_engine.specs.Steps.{Answers, Step}
 use Rattle.cat_engine.specs.WordRefusals.{Reads, bad_token}
 use Rattle.cat_engine.specs.declared.journal.Entry.{Entry}
 use Rattle.cat_engine.specs.declared.reply.Reply.{Reply}
 use Rattle.cat_engine.specs.declared.reply.Reply.TheVariants.{Refused}
 use Rattle.cat_engine.specs.declared.session.Session.{Session}
-use Rattle.cat_engine.proofs.FirstLaws.{IsSettled, AreSettled, first_settled}
-use Rattle.cat_engine.proofs.NewCatalogues.{new_settled}
 
 -- a text is at most one statement
 pub reads_settled : (text : List ℕ) (a b : Statement) → Reads text a → Reads text b → a ≡ b
@@ -44,39 +40,30 @@ for_current_settled sessions number test settled a b p q =
     let same : p.0 ≡ q.0 = let e : Some p.0 ≡ Some q.0 = sym p.1 ∙ q.1 in cc in
     settled p.0 a b p.2 (subst (λ w. test w b) (sym same) q.2)
 
-too_many_settled : (limits : Limits) (c : List Item) (edit : Edit) → IsSettled (too_many_items limits c edit)
-too_many_settled limits c edit a b p q =
-    let same : p.0 ≡ q.0 = new_settled c edit p.0 q.0 p.1 q.1 in
-    p.3 ∙ ap (λ (l : List Item). CatalogFull (length l)) same ∙ sym q.3
-
-create_schema_settled : (c : List Item) (who : Who) (clause : SchemaNameClause) → IsSettled (First (create_schema_refusals c who clause))
-create_schema_settled c who clause = first_settled (create_schema_refusals c who clause)
-    ((λ a b p q. p.1 ∙ sym q.1), ((λ a b p q. p.1 ∙ sym q.1), ((λ a b p q. p.2 ∙ sym q.2), ((λ a b p q. p.1 ∙ sym q.1), tt))))
+edit_settled : (limits : Limits) (number : ℕ) (old : Content) (s : Statement) → AreSettled (edit_refusals limits number old s)
+edit_settled limits number old s = (
+  (λ a b p q. p.1 ∙ sym q.1),
+  (for_current_settled old.sessions number (λ who. First (revision_refusals limits old.catalogue who s)) (λ who. refusal_settled limits old.catalogue who s), tt),
+)
 
 statement_settled : (limits : Limits) (number : ℕ) (old : Content) (s : Statement) → AreSettled (statement_refusals limits number old s)
 statement_settled limits number old (Connect c) = ((λ a b p q. p.1 ∙ sym q.1), ((λ a b p q. p.1 ∙ sym q.1), tt))
 statement_settled limits number old (SetConnection name) = ((λ a b p q. p.1 ∙ sym q.1), tt)
 statement_settled limits number old (Disconnect name) = ((λ a b p q. p.1 ∙ sym q.1), tt)
 statement_settled limits number old (SetSchema name) = ((λ a b p q. p.1 ∙ sym q.1), tt)
-statement_settled limits number old (CreateSchema s) = (
+statement_settled limits number old (SetRole choice) = (
   (λ a b p q. p.1 ∙ sym q.1),
-  (
-    for_current_settled old.sessions number (λ who. First (create_schema_refusals old.catalogue who s.schema)) (λ who. create_schema_settled old.catalogue who s.schema),
-    (
-      for_current_settled old.sessions number (λ who. too_many_items limits old.catalogue (create_schema_edit who s.schema)) (λ who. too_many_settled limits old.catalogue (create_schema_edit who s.schema)),
-      tt,
-    ),
-  ),
+  (for_current_settled old.sessions number (λ who. invalid_role old.catalogue who (role_chosen choice)) (λ who a b p q. p.1 ∙ sym q.1), tt),
 )
-statement_settled limits number old s = tt
+statement_settled limits number old s = edit_settled limits number old s
 
 for_statement_settled : (text : List ℕ) (test : Statement → Refusal → Type 0) → ((s : Statement) → IsSettled (test s)) → IsSettled (for_statement text test)
 for_statement_settled text test settled a b p q =
     let same : p.0 ≡ q.0 = reads_settled text p.0 q.0 p.1 q.1 in
     settled p.0 a b p.2 (subst (λ s. test s b) (sym same) q.2)
 
-pub refusal_settled : (limits : Limits) (number : ℕ) (old : Content) (text : List ℕ) → IsSettled (First (text_refusals limits number old text))
-refusal_settled limits number old text = first_settled (text_refusals limits number old text) (
+pub text_settled : (limits : Limits) (number : ℕ) (old : Content) (text : List ℕ) → IsSettled (First (text_refusals limits number old text))
+text_settled limits number old text = first_settled (text_refusals limits number old text) (
   bad_token_settled text,
   (
     (λ a b p q. p.3 ∙ sym q.3),
@@ -90,31 +77,33 @@ refusal_settled limits number old text = first_settled (text_refusals limits num
 same_content : (a b : Content) → a.catalogue ≡ b.catalogue → a.sessions ≡ b.sessions → a ≡ b
 same_content a b p q i = record { catalogue = p i; sessions = q i }
 
-edits_settled : (number : ℕ) (edit : Who → Edit) (old a b : Content) → Edits number edit old a → Edits number edit old b → a ≡ b
-edits_settled number edit old a b p q =
-    let same : p.0 ≡ q.0 = let e : Some p.0 ≡ Some q.0 = sym p.1 ∙ q.1 in cc in
-    same_content a b (new_settled old.catalogue (edit p.0) a.catalogue b.catalogue p.2 (subst (λ w. IsNew old.catalogue (edit w) b.catalogue) (sym same) q.2)) (p.3 ∙ sym q.3)
+revises_settled : (s : Statement) (number : ℕ) (old : Content) (v w : Option Warning) (a b : Content) → Revises s number old v a → Revises s number old w b → (v ≡ w) × (a ≡ b)
+revises_settled s number old v w a b p q =
+    let same : p.who ≡ q.who = let e : Some p.who ≡ Some q.who = sym p.current ∙ q.current in cc in
+    let one = revision_settled old.catalogue q.who s v w a.catalogue b.catalogue (subst (λ who. IsRevised old.catalogue who s v a.catalogue) same p.revised) q.revised in
+    (one.0, same_content a b one.1 (p.sessions ∙ sym q.sessions))
 
-changes_settled : (s : Statement) (number : ℕ) (old a b : Content) → Changes s number old a → Changes s number old b → a ≡ b
-changes_settled (Connect c) number old a b p q = p ∙ sym q
-changes_settled (SetConnection name) number old a b p q = p ∙ sym q
-changes_settled (Disconnect name) number old a b p q = p ∙ sym q
-changes_settled (SetSchema name) number old a b p q = p ∙ sym q
-changes_settled (CreateSchema s) number old a b p q = edits_settled number (λ who. create_schema_edit who s.schema) old a b p q
-changes_settled s number old a b p q = absurd p
+changes_settled : (s : Statement) (number : ℕ) (old : Content) (v w : Option Warning) (a b : Content) → Changes s number old v a → Changes s number old w b → (v ≡ w) × (a ≡ b)
+changes_settled (Connect c) number old v w a b p q = (p.1 ∙ sym q.1, p.0 ∙ sym q.0)
+changes_settled (SetConnection name) number old v w a b p q = (p.1 ∙ sym q.1, p.0 ∙ sym q.0)
+changes_settled (Disconnect name) number old v w a b p q = (p.1 ∙ sym q.1, p.0 ∙ sym q.0)
+changes_settled (SetSchema name) number old v w a b p q = (p.1 ∙ sym q.1, p.0 ∙ sym q.0)
+changes_settled (SetRole choice) number old v w a b p q = (p.1 ∙ sym q.1, p.0 ∙ sym q.0)
+changes_settled s number old v w a b p q = revises_settled s number old v w a b p q
 
 answer_settled : (limits : Limits) (number : ℕ) (old : Content) (text : List ℕ) (r s : Reply) (a b : Content) → Answers limits number old text r a → Answers limits number old text s b → (r ≡ s) × (a ≡ b)
 answer_settled limits number old text r s a b p q =
     elim p [
       | inl x ↦ elim q [
-        | inl y ↦ let same : x.refusal ≡ y.refusal = refusal_settled limits number old text x.refusal y.refusal x.first y.first in (x.told ∙ ap Refused same ∙ sym y.told, x.same ∙ sym y.same)
+        | inl y ↦ let same : x.refusal ≡ y.refusal = text_settled limits number old text x.refusal y.refusal x.first y.first in (x.told ∙ ap Refused same ∙ sym y.told, x.same ∙ sym y.same)
         | inr y ↦ absurd (y.passes x.refusal x.first)
       ]
       | inr x ↦ elim q [
         | inl y ↦ absurd (x.passes y.refusal y.first)
         | inr y ↦
             let same : x.statement ≡ y.statement = reads_settled text x.statement y.statement x.reads y.reads in
-            (x.told ∙ ap success same ∙ sym y.told, changes_settled x.statement number old a b x.changes (subst (λ t. Changes t number old b) (sym same) y.changes))
+            let one = changes_settled x.statement number old x.warning y.warning a b x.changes (subst (λ t. Changes t number old y.warning b) (sym same) y.changes) in
+            (x.told ∙ ap success one.0 ∙ sym y.told, one.1)
       ]
     ]
 

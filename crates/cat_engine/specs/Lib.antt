@@ -1,13 +1,8 @@
 pub mod Built
 pub mod ConnectionRefusals
 pub mod Contents
-pub mod CreatedSchemas
 pub mod Effects
-pub mod First
 pub mod Histories
-pub mod LimitRefusals
-pub mod NameRefusals
-pub mod OwnerRefusals
 pub mod Refusals
 pub mod Runs
 pub mod Sessions

@@ -1,17 +1,23 @@
 -- Why a text is refused: the first test that refuses, in the order in which they are made.
-use Rattle.std.specs.Prelude.{◌≡◌, ℕ, List, [], ◌∷◌, Some}
+use Rattle.std.specs.Prelude.{◌≡◌, false, ℕ, List, [], ◌∷◌, Option, Some, None}
 use Rattle.std.specs.Option.{unwrap_or}
 use Rattle.sql_tree.specs.declared.statement.Connect.{Connect as ConnectParts}
+use Rattle.sql_tree.specs.declared.statement.RoleChoice.{RoleChoice}
+use Rattle.sql_tree.specs.declared.statement.RoleChoice.TheVariants.{Literal, Identifier, NoRole}
 use Rattle.sql_tree.specs.declared.statement.Statement.{Statement}
-use Rattle.sql_tree.specs.declared.statement.Statement.TheVariants.{Connect, SetConnection, Disconnect, SetSchema, CreateSchema}
+use Rattle.sql_tree.specs.declared.statement.Statement.TheVariants.{Connect, SetConnection, Disconnect, SetSchema, SetRole}
 use Rattle.cat_items.specs.declared.edit.Refusal.{Refusal}
+use Rattle.cat_items.specs.declared.edit.Refusal.TheVariants.{InvalidRole}
 use Rattle.cat_items.specs.declared.edit.Who.{Who}
+use Rattle.cat_items.specs.declared.item.Item.{Item}
 use Rattle.cat_items.specs.declared.limits.Limits.{Limits}
+use Rattle.cat_items.specs.declared.need.Auth.TheVariants.{Named}
+use Rattle.cat_items.specs.Reach.{Has, Reaches}
+use Rattle.cat_items.specs.Rights.{IsRole}
+use Rattle.edit_rules.specs.First.{First}
+use Rattle.catalogue_edits.specs.Revisions.{revision_refusals}
 use Rattle.cat_engine.specs.ConnectionRefusals.{no_such_connection, not_connected, connection_in_use, unknown_user}
 use Rattle.cat_engine.specs.Contents.{Content}
-use Rattle.cat_engine.specs.CreatedSchemas.{create_schema_refusals, create_schema_edit}
-use Rattle.cat_engine.specs.First.{First}
-use Rattle.cat_engine.specs.LimitRefusals.{too_many_items}
 use Rattle.cat_engine.specs.Sessions.{who_of}
 use Rattle.cat_engine.specs.WordRefusals.{Reads, bad_token, not_in_profile, syntax_error}
 use Rattle.cat_engine.specs.declared.session.Session.{Session}
@@ -24,18 +30,39 @@ for_current sessions number test refusal = (who : Who) × (who_of sessions numbe
 abbrev pub connection_name : ConnectParts → List ℕ
 connection_name connect = unwrap_or connect.connection connect.server
 
+-- the role that SET ROLE names; NONE names none
+abbrev pub role_chosen : RoleChoice → Option (List ℕ)
+role_chosen (Literal name) = Some name
+role_chosen (Identifier name) = Some name
+role_chosen NoRole = None
+
+-- no role, or a role that the user reaches
+abbrev pub MayBeRole : List Item → Who → Option (List ℕ) → Type 0
+MayBeRole c who None = Unit {0}
+MayBeRole c who (Some role) = Has c (IsRole role) × Reaches c (Named who.user) (Named role)
+
+abbrev pub invalid_role : List Item → Who → Option (List ℕ) → Refusal → Type 0
+invalid_role c who role refusal = (¬ (MayBeRole c who role)) × (refusal ≡ InvalidRole false)
+
+-- the tests of SET ROLE, in their order
+abbrev pub role_refusals : ℕ → Content → RoleChoice → List (Refusal → Type 0)
+role_refusals number old choice = not_connected old.sessions number ∷ for_current old.sessions number (λ who. invalid_role old.catalogue who (role_chosen choice)) ∷ []
+
+-- the tests of a statement that edits the catalogue, in their order
+abbrev pub edit_refusals : Limits → ℕ → Content → Statement → List (Refusal → Type 0)
+edit_refusals limits number old statement =
+    not_connected old.sessions number
+    ∷ for_current old.sessions number (λ who. First (revision_refusals limits old.catalogue who statement))
+    ∷ []
+
 -- the tests of a statement, in their order
 abbrev pub statement_refusals : Limits → ℕ → Content → Statement → List (Refusal → Type 0)
 statement_refusals limits number old (Connect c) = connection_in_use old.sessions number (connection_name c) ∷ unknown_user old.catalogue c.user ∷ []
 statement_refusals limits number old (SetConnection name) = no_such_connection old.sessions number name ∷ []
 statement_refusals limits number old (Disconnect name) = no_such_connection old.sessions number name ∷ []
 statement_refusals limits number old (SetSchema name) = not_connected old.sessions number ∷ []
-statement_refusals limits number old (CreateSchema s) =
-    not_connected old.sessions number
-    ∷ for_current old.sessions number (λ who. First (create_schema_refusals old.catalogue who s.schema))
-    ∷ for_current old.sessions number (λ who. too_many_items limits old.catalogue (create_schema_edit who s.schema))
-    ∷ []
-statement_refusals limits number old statement = []
+statement_refusals limits number old (SetRole choice) = role_refusals number old choice
+statement_refusals limits number old statement = edit_refusals limits number old statement
 
 -- a test of the statement that the text is
 abbrev pub for_statement : List ℕ → (Statement → Refusal → Type 0) → Refusal → Type 0

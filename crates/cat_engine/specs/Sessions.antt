@@ -9,6 +9,8 @@ use Rattle.std.specs.Map.{lookup, set_value}
 use Rattle.cat_items.specs.declared.edit.Who.{Who}
 use Rattle.cat_engine.specs.declared.session.Connection.{Connection}
 use Rattle.cat_engine.specs.declared.session.Session.{Session}
+use Rattle.cat_engine.specs.declared.session.Setting.{Setting}
+use Rattle.cat_engine.specs.declared.session.Setting.TheVariants.{Schema, Role}
 
 -- the connection has this name
 abbrev pub is_named : List ℕ → Connection → Bool
@@ -65,17 +67,22 @@ disconnected session name = elim (place_of session name) [
   | Some at ↦ record { connections = remove session.connections at; current = unless name session.current }
 ]
 
-abbrev pub with_schema : List ℕ → Connection → Connection
-with_schema schema c = record { name = c.name; who = record { user = c.who.user; role = c.who.role; schema = schema } }
+-- for the same user, with this schema or this role
+abbrev pub who_with : Setting → Who → Who
+who_with (Schema schema) who = record { user = who.user; role = who.role; schema = schema }
+who_with (Role role) who = record { user = who.user; role = role; schema = who.schema }
 
--- with this as the schema of the connection at a place
-abbrev pub with_schema_at : Session → ℕ → List ℕ → Option Connection → Session
-with_schema_at session at schema None = session
-with_schema_at session at schema (Some c) = record { connections = slice_set session.connections at (with_schema schema c); current = session.current }
+abbrev pub with_setting : Setting → Connection → Connection
+with_setting setting c = record { name = c.name; who = who_with setting c.who }
 
--- with this as the schema of its current connection
-abbrev pub in_schema : Session → List ℕ → Session
-in_schema session schema = elim (option_and_then (place_of session) session.current) [
+-- with this set for the connection at a place
+abbrev pub with_setting_at : Session → ℕ → Setting → Option Connection → Session
+with_setting_at session at setting None = session
+with_setting_at session at setting (Some c) = record { connections = slice_set session.connections at (with_setting setting c); current = session.current }
+
+-- with this set for its current connection
+abbrev pub set_for : Session → Setting → Session
+set_for session setting = elim (option_and_then (place_of session) session.current) [
   | None ↦ session
-  | Some at ↦ with_schema_at session at schema (slice_get session.connections at)
+  | Some at ↦ with_setting_at session at setting (slice_get session.connections at)
 ]

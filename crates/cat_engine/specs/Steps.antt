@@ -1,11 +1,12 @@
 -- One step of a book: a session's text, the reply, and the state after it.
-use Rattle.std.specs.Prelude.{◌≡◌, ◌⊎◌, ℕ, List, [], ◌∷◌, ◌++◌}
+use Rattle.std.specs.Prelude.{◌≡◌, ◌⊎◌, ℕ, List, [], ◌∷◌, ◌++◌, Option}
 use Rattle.sql_tree.specs.declared.statement.Statement.{Statement}
 use Rattle.cat_items.specs.declared.edit.Refusal.{Refusal}
 use Rattle.cat_items.specs.declared.limits.Limits.{Limits}
+use Rattle.edit_rules.specs.First.{First, Passes}
+use Rattle.catalogue_edits.specs.declared.warning.Warning.{Warning}
 use Rattle.cat_engine.specs.Contents.{Content, State, bytes_held, IsFull}
 use Rattle.cat_engine.specs.Effects.{Changes, success}
-use Rattle.cat_engine.specs.First.{First, Passes}
 use Rattle.cat_engine.specs.Refusals.{text_refusals}
 use Rattle.cat_engine.specs.WordRefusals.{Reads}
 use Rattle.cat_engine.specs.declared.reply.Reply.{Reply}
@@ -23,8 +24,9 @@ pub record IsDone (limits : Limits) (number : ℕ) (old : Content) (text : List 
   pub passes : Passes (First (text_refusals limits number old text))
   pub statement : Statement
   pub reads : Reads text statement
-  pub changes : Changes statement number old new
-  pub told : reply ≡ success statement
+  pub warning : Option Warning
+  pub changes : Changes statement number old warning new
+  pub told : reply ≡ success warning
 
 abbrev pub Answers : Limits → ℕ → Content → List ℕ → Reply → Content → Type 0
 Answers limits number old text reply new = IsRefused limits number old text reply new ⊎ IsDone limits number old text reply new

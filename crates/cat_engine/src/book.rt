@@ -14,9 +14,11 @@ use crate::environment::Environment;
 use crate::journal::{Entry, enter};
 use crate::reply::Reply;
 use cat_items::{Catalogue, Limits, Who};
+use item_index::Steps;
 use sql_tree::{Name, Text};
 use std::alloc::{AllocError, Global};
 use std::marker::Model;
+use std::sync::ledger::Ledger;
 
 /// What a journal holds of each entry beside its text, in bytes.
 const ENTRY_BYTES: u64 = 64;
@@ -98,10 +100,13 @@ impl Book {
     /// Answers one statement of a session, given without its semicolon.
     ///
     /// A text that is answered gets an entry in the journal, a refused one too. `JournalFull` and `OutOfMemory` leave all as it was.
-    pub fn apply(&mut self, session: u32, text: &[u8]) -> Reply
+    /// `steps` counts look-ups in an index of descriptors; there is none so far, so it stays.
+    pub fn apply<L: Ledger>(&mut self, session: u32, text: &[u8], steps: &mut Steps<L>) -> Reply
         requires { length text.now ≤ 65535 }
-        ensures { StepOrNone self.old session text.now result self.new }
+        ensures step { StepOrNone self.old session text.now result self.new }
+        ensures steps { steps.new ≡ steps.old }
     {
+        let _ = steps;
         let size = ENTRY_BYTES + text.len() as u64;
         if self.limits.journal - self.held < size {
             return Reply::JournalFull { held: self.held };

@@ -1,32 +1,32 @@
 //! What statements read and change.
 
-ghost use Rattle.std.specs.Prelude.{◌≡◌, ◌≢◌, ◌↔◌, ◌∷◌, ◌⊎◌, [], codes, IsTrue, IfOk, OnErr};
+ghost use Rattle.std.specs.Prelude.{◌≡◌, ◌≢◌, ◌↔◌, ◌∷◌, [], IfOk, IsTrue, OnErr};
 ghost use Rattle.std.specs.List.{AllPairs, Contains, All};
 ghost use Rattle.std.specs.Option.{option_copied};
 ghost use Rattle.cat_items.specs.declared.item.Item.{Item as ItemSpec};
-ghost use Rattle.cat_items.specs.declared.item.Item.TheVariants as item;
 ghost use Rattle.cat_items.specs.Shape.{IsAuthorizationName};
 ghost use Rattle.cat_items.specs.Good.{IsGood};
 ghost use Rattle.cat_items.specs.Catalogues.{IsInOrder, IsUserOf};
-ghost use Rattle.cat_items.specs.Edits.{IsNew};
-ghost use Rattle.cat_items.specs.Reach.{Has};
-ghost use Rattle.cat_items.specs.Rights.{IsAuthorization, IsSchema};
-ghost use Rattle.cat_engine.specs.Built.{HasUsersAndSchemas, IsBuilt};
+ghost use Rattle.define_edit.specs.Creations.{HasForms};
+ghost use Rattle.edit_rules.specs.First.{HasPassed, Tested};
+ghost use Rattle.catalogue_edits.specs.Statements.{IsBuiltEdit};
+ghost use Rattle.cat_engine.specs.Built.{IsBuilt};
 ghost use Rattle.cat_engine.specs.ConnectionRefusals as connections;
-ghost use Rattle.cat_engine.specs.CreatedSchemas as schemas;
 ghost use Rattle.cat_engine.specs.Effects as effects;
-ghost use Rattle.cat_engine.specs.First.{First, Tested};
-ghost use Rattle.cat_engine.specs.LimitRefusals.{too_many_items};
 ghost use Rattle.cat_engine.specs.Refusals as refusals;
-ghost use Rattle.cat_engine.specs.Sessions.{who_of, connected, switched, disconnected, in_schema};
+ghost use Rattle.cat_engine.specs.Sessions.{who_of, connected, switched, disconnected, set_for};
 ghost use Rattle.cat_engine.specs.Steps.{Answers};
+ghost use Rattle.cat_engine.specs.declared.session.Setting.TheVariants.{Schema, Role};
 
 use crate::reading::read;
 use crate::reply::Reply;
-use crate::session::Connection;
+use crate::session::{Connection, Setting};
 use crate::sessions::Sessions;
-use cat_items::{Catalogue, EditError, Item, Limits, Refusal, Schema, Shared, Who, find, owner_of};
-use sql_tree::{Connect, Name, Path, SchemaNameClause, Statement};
+use cat_items::{Auth, Catalogue, EditError, Limits, Refusal, Who};
+use catalogue_edits::{Warning, revise};
+use edit_rules::{is_role, is_user};
+use role_graph::reaches;
+use sql_tree::{Connect, Name, RoleChoice, Statement};
 use std::alloc::{AllocError, Global};
 use std::marker::Model;
 
@@ -48,133 +48,58 @@ impl Model for Environment {
 
     ghost coded = { Prim.hlevel (codes, expr.the_row.coded, query.the_row.coded) };
 
-    ghost use Rattle.cat_engine.specs.Built.{HasUsersAndSchemas};
+    ghost use Rattle.cat_items.specs.Good.{IsGood};
 
     ghost view = { λ e. record { catalogue = e.catalogue.items; sessions = e.sessions } };
 
-    ghost invariant = { λ e. HasUsersAndSchemas e.catalogue.items };
+    ghost invariant = { λ e. IsGood e.catalogue.items };
 }
 
-// Whether a user has this name.
-fn is_user(catalogue: &Catalogue, name: &Name) -> Result<bool, AllocError>
-    ensures { IfOk result (λ is. IsTrue is ↔ Contains catalogue.now.items (item.User name.now)) }
+// The reply to a statement that is done.
+fn success(warning: Option<Warning>) -> Reply
+    ensures { result ≡ effects.success warning }
 {
-    let key = Item::User(name.copy()?);
-    Ok(find(catalogue, &key).is_some())
-}
-
-// Whether a role has this name.
-fn is_role(catalogue: &Catalogue, name: &Name) -> Result<bool, AllocError>
-    ensures { IfOk result (λ is. IsTrue is ↔ Contains catalogue.now.items (item.Role name.now)) }
-{
-    let key = Item::Role(name.copy()?);
-    Ok(find(catalogue, &key).is_some())
-}
-
-// Whether a user or a role has this name.
-fn is_authorization(catalogue: &Catalogue, name: &Name) -> Result<bool, AllocError>
-    ensures { IfOk result (λ is. IsTrue is ↔ Has catalogue.now.items (IsAuthorization name.now)) }
-{
-    let user = is_user(catalogue, name)?;
-    let role = is_role(catalogue, name)?;
-    Ok(user || role)
-}
-
-// Whether a schema has this name.
-fn is_schema(catalogue: &Catalogue, name: &Name) -> bool
-    ensures { IsTrue result ↔ Has catalogue.now.items (IsSchema name.now) }
-{
-    owner_of(catalogue, name).is_some()
-}
-
-// Whether a schema of this name stands by itself.
-fn is_reserved_schema(name: &Name) -> bool
-    ensures { IsTrue result ↔ ((name.now ≡ codes "INFORMATION_SCHEMA") ⊎ (name.now ≡ codes "DEFINITION_SCHEMA")) }
-{
-    name.bytes() == b"INFORMATION_SCHEMA".as_slice()
-        || name.bytes() == b"DEFINITION_SCHEMA".as_slice()
-}
-
-// The name of the schema that is made.
-fn schema_name(clause: &SchemaNameClause) -> &Name
-    ensures { result.now ≡ schemas.schema_name clause.now }
-{
-    match clause {
-        SchemaNameClause::Named { schema, .. } => schema,
-        SchemaNameClause::Authorization(owner) => owner,
+    match warning {
+        None => Reply::Ok,
+        Some(warning) => Reply::Warn(warning),
     }
 }
 
-// Its owner.
-fn schema_owner<'a>(clause: &'a SchemaNameClause, who: &'a Who) -> &'a Name
-    ensures { result.now ≡ schemas.schema_owner clause.now who.now }
+fn role_chosen(choice: RoleChoice) -> Option<Name>
+    ensures { result ≡ refusals.role_chosen choice }
 {
-    match clause {
-        SchemaNameClause::Named {
-            owner: Some(owner),
-            ..
-        }
-        | SchemaNameClause::Authorization(owner) => owner,
-        SchemaNameClause::Named { owner: None, .. } => &who.user,
+    match choice {
+        RoleChoice::Literal(name) | RoleChoice::Identifier(name) => Some(name),
+        RoleChoice::NoRole => None,
     }
 }
 
-// The schema that CREATE SCHEMA makes. No role can be set so far, so an owner is the user.
-fn new_schema(
-    catalogue: &Catalogue,
-    who: &Who,
-    clause: &SchemaNameClause,
-) -> Result<Schema, EditError>
-    requires { HasUsersAndSchemas catalogue.now.items }
-    ensures tested { Tested (schemas.create_schema_refusals catalogue.now.items who.now clause.now) (λ s. s ≡ schemas.schema_of who.now clause.now) (Unit {0}) result }
-    ensures owner { IfOk result (λ s. Contains catalogue.now.items (item.User s.owner)) }
-    ensures new { IfOk result (λ s. ¬ (Has catalogue.now.items (IsSchema s.name))) }
-{
-    let name = schema_name(clause);
-    let owner = schema_owner(clause, who);
-    if is_reserved_schema(name) {
-        return Err(EditError::Refused(Refusal::NameReserved));
-    }
-    if !is_authorization(catalogue, owner)? {
-        let path = Path::one(owner.copy()?);
-        return Err(EditError::Refused(Refusal::UnknownName { path }));
-    }
-    if !owner.same(&who.user) {
-        let schema = name.copy()?;
-        return Err(EditError::Refused(Refusal::NotOwner { schema }));
-    }
-    if is_schema(catalogue, name) {
-        let path = Path::one(name.copy()?);
-        return Err(EditError::Refused(Refusal::NameExists { path }));
-    }
-    Ok(Schema {
-        name: name.copy()?,
-        owner: owner.copy()?,
-    })
-}
-
-// Adds a schema, whose owner is a user, to the catalogue.
-fn add_schema(
+// Whether it is no role, or a role that the user reaches.
+fn may_be_role(
     alloc: Global,
-    catalogue: &mut Catalogue,
-    limits: &Limits,
-    schema: Schema,
-) -> Result<(), EditError>
-    requires kinds { HasUsersAndSchemas catalogue.old.items }
-    requires owner { Contains catalogue.old.items (item.User schema.owner) }
-    requires new { ¬ (Has catalogue.old.items (IsSchema schema.name)) }
-    ensures tested { Tested (too_many_items limits.now catalogue.old.items (schemas.adding (item.Schema schema)) ∷ [])
-        (λ _. IsNew catalogue.old.items (schemas.adding (item.Schema schema)) catalogue.new.items) (catalogue.new.items ≡ catalogue.old.items) result }
-    ensures kinds { HasUsersAndSchemas catalogue.new.items }
+    c: &Catalogue,
+    who: &Who,
+    role: &Option<Name>,
+) -> Result<bool, AllocError>
+    ensures { IfOk result (λ answer. IsTrue answer ↔ refusals.MayBeRole c.now.items who.now role.now) }
 {
-    let count = catalogue.items().len() as u64;
-    if count >= u64::from(limits.items) {
-        return Err(EditError::Refused(Refusal::CatalogFull { count: count + 1 }));
+    let Some(role) = role else {
+        return Ok(true);
+    };
+    if !is_role(c, role) {
+        return Ok(false);
     }
-    let item = Item::Schema(Shared::new(alloc, schema)?);
-    catalogue.reserve(1)?;
-    catalogue.put_in(item);
-    Ok(())
+    let user = Auth::Named(who.user.copy()?);
+    reaches(alloc, c, &user, &Auth::Named(role.copy()?))
+}
+
+fn test_role(alloc: Global, c: &Catalogue, who: &Who, role: &Option<Name>) -> Result<(), EditError>
+    ensures { HasPassed (refusals.invalid_role c.now.items who.now role.now ∷ []) result }
+{
+    match may_be_role(alloc, c, who, role)? {
+        true => Ok(()),
+        false => Err(EditError::Refused(Refusal::InvalidRole { current: false })),
+    }
 }
 
 impl Environment {
@@ -223,7 +148,7 @@ impl Environment {
         if self.sessions.has(number, &name) {
             return Err(EditError::Refused(Refusal::ConnectionInUse));
         }
-        if !is_user(&self.catalogue, &user)? {
+        if !is_user(&self.catalogue, &user) {
             return Err(EditError::Refused(Refusal::UnknownUser));
         }
         let who = Who {
@@ -260,56 +185,82 @@ impl Environment {
 
     fn set_schema(&mut self, number: u32, schema: Name) -> Result<(), EditError>
         ensures { Tested (connections.not_connected self.old.sessions number ∷ [])
-            (λ _. effects.ChangesSession number (λ s. in_schema s schema) self.old self.new) (self.new ≡ self.old) result }
+            (λ _. effects.ChangesSession number (λ s. set_for s (Schema schema)) self.old self.new) (self.new ≡ self.old) result }
     {
         if self.sessions.who(number).is_none() {
             return Err(EditError::Refused(Refusal::NotConnected));
         }
-        self.sessions.set_schema(number, schema)?;
+        self.sessions.set(number, Setting::Schema(schema))?;
         Ok(())
     }
 
-    fn create_schema(
+    fn set_role(&mut self, alloc: Global, number: u32, choice: RoleChoice) -> Result<(), EditError>
+        ensures { Tested (refusals.role_refusals number self.old choice)
+            (λ _. effects.ChangesSession number (λ s. set_for s (Role (refusals.role_chosen choice))) self.old self.new) (self.new ≡ self.old) result }
+    {
+        let role = role_chosen(choice);
+        let Some(who) = self.sessions.who(number) else {
+            return Err(EditError::Refused(Refusal::NotConnected));
+        };
+        test_role(alloc, &self.catalogue, who, &role)?;
+        self.sessions.set(number, Setting::Role(role))?;
+        Ok(())
+    }
+
+    // Makes of the catalogue what a statement makes of it.
+    fn revise(
         &mut self,
         alloc: Global,
         limits: &Limits,
         number: u32,
-        clause: &SchemaNameClause,
-    ) -> Result<(), EditError>
-        ensures { Tested (connections.not_connected self.old.sessions number
-            ∷ refusals.for_current self.old.sessions number (λ who. First (schemas.create_schema_refusals self.old.catalogue who clause.now))
-            ∷ refusals.for_current self.old.sessions number (λ who. too_many_items limits.now self.old.catalogue (schemas.create_schema_edit who clause.now))
-            ∷ [])
-            (λ _. effects.Edits number (λ who. schemas.create_schema_edit who clause.now) self.old self.new) (self.new ≡ self.old) result }
+        statement: &Statement,
+    ) -> Result<Option<Warning>, EditError>
+        requires built { IsBuiltEdit statement.now }
+        requires forms { HasForms statement.now }
+        ensures { Tested (refusals.edit_refusals limits.now number self.old statement.now)
+            (λ warning. effects.Revises statement.now number self.old warning self.new) (self.new ≡ self.old) result }
     {
-        let schema = match self.sessions.who(number) {
-            None => return Err(EditError::Refused(Refusal::NotConnected)),
-            Some(who) => new_schema(&self.catalogue, who, clause)?,
-        };
-        add_schema(alloc, &mut self.catalogue, limits, schema)
+        match self.sessions.who(number) {
+            None => Err(EditError::Refused(Refusal::NotConnected)),
+            Some(who) => revise(alloc, limits, &mut self.catalogue, who, statement),
+        }
     }
 
-    // Does what a statement says where nothing refuses it.
+    // Does what a statement says where nothing refuses it, and tells what it warns of.
     fn execute(
         &mut self,
         alloc: Global,
         limits: &Limits,
         number: u32,
         statement: Statement,
-    ) -> Result<(), EditError>
-        requires { IsBuilt statement }
+    ) -> Result<Option<Warning>, EditError>
+        requires built { IsBuilt statement }
+        requires forms { HasForms statement }
         ensures { Tested (refusals.statement_refusals limits.now number self.old statement)
-            (λ _. effects.Changes statement number self.old self.new) (self.new ≡ self.old) result }
+            (λ warning. effects.Changes statement number self.old warning self.new) (self.new ≡ self.old) result }
     {
         match statement {
-            Statement::Connect(parts) => self.connect(alloc, number, parts),
-            Statement::SetConnection(name) => self.switch(number, name),
-            Statement::Disconnect(name) => self.disconnect(number, &name),
-            Statement::SetSchema(schema) => self.set_schema(number, schema),
-            Statement::CreateSchema(parts) => {
-                self.create_schema(alloc, limits, number, &parts.schema)
+            Statement::Connect(parts) => {
+                self.connect(alloc, number, parts)?;
+                Ok(None)
             }
-            _ => unreachable!(),
+            Statement::SetConnection(name) => {
+                self.switch(number, name)?;
+                Ok(None)
+            }
+            Statement::Disconnect(name) => {
+                self.disconnect(number, &name)?;
+                Ok(None)
+            }
+            Statement::SetSchema(schema) => {
+                self.set_schema(number, schema)?;
+                Ok(None)
+            }
+            Statement::SetRole(choice) => {
+                self.set_role(alloc, number, choice)?;
+                Ok(None)
+            }
+            edit => self.revise(alloc, limits, number, &edit),
         }
     }
 
@@ -330,7 +281,7 @@ impl Environment {
             Err(EditError::Memory) => return Err(AllocError),
         };
         match self.execute(alloc, limits, number, statement) {
-            Ok(()) => Ok(Reply::Ok),
+            Ok(warning) => Ok(success(warning)),
             Err(EditError::Refused(refusal)) => Ok(Reply::Refused(refusal)),
             Err(EditError::Memory) => Err(AllocError),
         }

@@ -16,7 +16,7 @@ pub use laws::{
     a_history_settles_its_replies, a_history_settles_its_state, a_refusal_changes_nothing,
     a_step_is_settled,
 };
-pub use reply::{Reply, Warning};
+pub use reply::Reply;
 
 #[cfg(test)]
 mod tests;

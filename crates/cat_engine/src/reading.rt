@@ -2,11 +2,12 @@
 
 ghost use Rattle.std.specs.Prelude.{◌≡◌, ◌∷◌, [], ◌↔◌, IsTrue, Ok};
 ghost use Rattle.cat_engine.specs.Built.{IsBuilt};
-ghost use Rattle.cat_engine.specs.First.{Tested};
+ghost use Rattle.edit_rules.specs.First.{IsTested};
 ghost use Rattle.sql_words.specs.Words as spec;
 ghost use Rattle.cat_engine.specs.WordRefusals.{Reads, bad_token, not_in_profile, syntax_error};
 
 use cat_items::{EditError, Refusal};
+use catalogue_edits::is_edit;
 use sql_grammar::{GrammarError, statement};
 use sql_tree::Statement;
 use sql_words::{Word, WordsError, words};
@@ -20,15 +21,15 @@ fn is_built(statement: &Statement) -> bool
         Statement::Connect(_)
         | Statement::SetConnection(_)
         | Statement::Disconnect(_)
-        | Statement::SetSchema(_) => true,
-        Statement::CreateSchema(schema) => schema.elements.is_empty(),
-        _ => false,
+        | Statement::SetSchema(_)
+        | Statement::SetRole(_) => true,
+        edit => is_edit(edit),
     }
 }
 
 // The words of a text.
 fn words_of(alloc: Global, text: &[u8]) -> Result<Vec<Word>, EditError>
-    ensures { Tested (bad_token text.now ∷ []) (λ words. spec.words_of text.now ≡ Ok words.items) (Unit {0}) result }
+    ensures { IsTested (bad_token text.now ∷ []) (λ words. spec.words_of text.now ≡ Ok words.items) result }
 {
     match words(alloc, text) {
         Ok(words) => Ok(words),
@@ -41,7 +42,7 @@ fn words_of(alloc: Global, text: &[u8]) -> Result<Vec<Word>, EditError>
 
 /// The statement that a text is, where its kind is built.
 pub fn read(alloc: Global, text: &[u8]) -> Result<Statement, EditError>
-    ensures { Tested (bad_token text.now ∷ not_in_profile text.now ∷ syntax_error text.now ∷ []) (Reads text.now) (Unit {0}) result }
+    ensures { IsTested (bad_token text.now ∷ not_in_profile text.now ∷ syntax_error text.now ∷ []) (Reads text.now) result }
 {
     let words = words_of(alloc, text)?;
     let found = match statement(alloc, &words) {

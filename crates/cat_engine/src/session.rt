@@ -22,6 +22,14 @@ pub struct Session {
     pub current: Option<Name>,
 }
 
+/// What SET SCHEMA and SET ROLE set for a connection.
+#[derive(Drop)]
+pub enum Setting {
+    Schema(Name),
+    /// `None` where it is NONE.
+    Role(Option<Name>),
+}
+
 fn is_named(name: &Name, connection: &Connection) -> bool
     ensures { result ≡ spec.is_named name.now connection.now }
 {
@@ -121,9 +129,9 @@ impl Session {
         }
     }
 
-    /// Sets the schema of the current connection, or leaves all as it was.
-    pub fn set_schema(&mut self, schema: Name) -> Result<(), AllocError>
-        ensures ok { OnOk result (self.new ≡ spec.in_schema self.old schema) }
+    /// Sets the schema or the role of the current connection, or leaves all as it was.
+    pub fn set(&mut self, setting: Setting) -> Result<(), AllocError>
+        ensures ok { OnOk result (self.new ≡ spec.set_for self.old setting) }
         ensures err { OnErr result (self.new ≡ self.old) }
     {
         let at = match &self.current {
@@ -132,32 +140,46 @@ impl Session {
         };
         match at {
             None => Ok(()),
-            Some(at) => self.set_schema_at(at, schema),
+            Some(at) => self.set_at(at, setting),
         }
     }
 
-    fn set_schema_at(&mut self, at: usize, schema: Name) -> Result<(), AllocError>
-        ensures ok { OnOk result (self.new ≡ spec.with_schema_at self.old at schema (slice_get self.old.connections at)) }
+    fn set_at(&mut self, at: usize, setting: Setting) -> Result<(), AllocError>
+        ensures ok { OnOk result (self.new ≡ spec.with_setting_at self.old at setting (slice_get self.old.connections at)) }
         ensures err { OnErr result (self.new ≡ self.old) }
     {
         let connection = match self.connections.get(at) {
             None => return Ok(()),
-            Some(connection) => in_schema(connection, schema)?,
+            Some(connection) => with_setting(connection, setting)?,
         };
         self.connections.set(at, connection);
         Ok(())
     }
 }
 
-fn in_schema(connection: &Connection, schema: Name) -> Result<Connection, AllocError>
-    ensures { IfOk result (λ changed. changed ≡ spec.with_schema schema connection.now) }
+fn who_with(who: &Who, setting: Setting) -> Result<Who, AllocError>
+    ensures { IfOk result (λ changed. changed ≡ spec.who_with setting who.now) }
+{
+    let user = who.user.copy()?;
+    match setting {
+        Setting::Schema(schema) => Ok(Who {
+            user,
+            role: copy_optional(&who.role)?,
+            schema,
+        }),
+        Setting::Role(role) => Ok(Who {
+            user,
+            role,
+            schema: who.schema.copy()?,
+        }),
+    }
+}
+
+fn with_setting(connection: &Connection, setting: Setting) -> Result<Connection, AllocError>
+    ensures { IfOk result (λ changed. changed ≡ spec.with_setting setting connection.now) }
 {
     Ok(Connection {
         name: connection.name.copy()?,
-        who: Who {
-            user: connection.who.user.copy()?,
-            role: copy_optional(&connection.who.role)?,
-            schema,
-        },
+        who: who_with(&connection.who, setting)?,
     })
 }

@@ -7,7 +7,7 @@ ghost use Rattle.std.specs.Ordering.{nat_cmp};
 ghost use Rattle.std.specs.Option.{option_copied};
 ghost use Rattle.cat_engine.specs.Sessions as spec;
 
-use crate::session::{Connection, Session};
+use crate::session::{Connection, Session, Setting};
 use cat_items::Who;
 use sql_tree::Name;
 use std::alloc::{AllocError, Global};
@@ -116,14 +116,14 @@ impl Sessions {
         }
     }
 
-    /// Sets the schema of a session's current connection, or leaves all as it was.
-    pub fn set_schema(&mut self, number: u32, schema: Name) -> Result<(), AllocError>
+    /// Sets the schema or the role of a session's current connection, or leaves all as it was.
+    pub fn set(&mut self, number: u32, setting: Setting) -> Result<(), AllocError>
         requires { IsSome (spec.who_of self.old number) }
-        ensures ok { OnOk result (self.new ≡ spec.with_session self.old number (spec.in_schema (spec.session_of self.old number) schema)) }
+        ensures ok { OnOk result (self.new ≡ spec.with_session self.old number (spec.set_for (spec.session_of self.old number) setting)) }
         ensures err { OnErr result (self.new ≡ self.old) }
     {
         match self.sessions.get_mut(&number) {
-            Some(session) => session.set_schema(schema),
+            Some(session) => session.set(setting),
             None => Ok(()),
         }
     }

@@ -6,8 +6,8 @@ use Rattle.cat_items.specs.declared.edit.Refusal.{Refusal}
 use Rattle.cat_items.specs.declared.edit.Refusal.TheVariants as r
 use Rattle.cat_engine.specs.declared.reply.Reply.{Reply}
 use Rattle.cat_engine.specs.declared.reply.Reply.TheVariants.{Ok, Warn, Refused, JournalFull, OutOfMemory}
-use Rattle.cat_engine.specs.declared.reply.Warning.{Warning}
-use Rattle.cat_engine.specs.declared.reply.Warning.TheVariants.{NotRevoked, NotGranted}
+use Rattle.catalogue_edits.specs.declared.warning.Warning.{Warning}
+use Rattle.catalogue_edits.specs.declared.warning.Warning.TheVariants.{NotRevoked, NotGranted}
 
 -- a double quote is doubled inside double quotes
 abbrev pub doubled : ℕ → List ℕ

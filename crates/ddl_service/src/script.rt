@@ -1,5 +1,6 @@
 ghost use Rattle.std.specs.Prelude.{◌≡◌, ◌≤◌, ◌<◌, ◌+◌, ◌^◌, ◌∷◌, [], length, None, take, OnOk, OnErr, IfOk, IfErr};
 ghost use Rattle.cat_engine.specs.Runs.{missed};
+ghost use Rattle.cat_engine.specs.Steps.{StepOrNone};
 ghost use Rattle.sql_words.specs.Stream.{rest_from};
 ghost use Rattle.ddl_service.specs.Runs as runs;
 ghost use Rattle.ddl_service.specs.Runs.{Answered, Broke, Overran};
@@ -11,7 +12,10 @@ ghost use Rattle.svc_io.specs.Faults.{HasCause, Rose};
 use crate::print::write_reply;
 use cat_engine::{Book, Reply};
 use cat_items::Limits;
+use item_index::Steps;
 use sql_words::{Fed, Splitter};
+use std::marker::Brand;
+use std::sync::ledger::{Blank, Ledger};
 use svc_io::{Failed, Sink, Source};
 
 /// How many bytes are taken at a time.
@@ -45,6 +49,18 @@ fn misses(reply: &Reply) -> u64
     }
 }
 
+// Answers a text, with a count of look-ups of its own.
+fn answer<L: Ledger>(book: &mut Book, text: &[u8], blank: Blank) -> Reply
+    requires name { blank.name ≡ L.name }
+    requires parts { blank.parts ≡ L.parts }
+    requires whole { blank.parts ≡ 1 }
+    requires short { length text.now ≤ 65535 }
+    ensures { StepOrNone book.old 0 text.now result book.new }
+{
+    let mut steps: Steps<L> = Steps::new(blank);
+    book.apply(0, text, &mut steps)
+}
+
 // Runs one text, and writes its reply.
 fn run_text<W: Sink>(
     book: &mut Book,
@@ -59,7 +75,7 @@ fn run_text<W: Sink>(
     ensures cause { HasCause (W.faults sink.old) (W.faults sink.new) result }
     ensures beside { W.beside sink.new ≡ W.beside sink.old }
 {
-    let reply = book.apply(0, text);
+    let reply = answer::<Brand>(book, text, Blank::new(1));
     *missed += misses(&reply);
     write_reply(sink, &reply)
 }

@@ -20,11 +20,7 @@ pub trait Chooses {
 /// Copies of the items of a catalogue that pass a test, in order. `Err` is want of memory.
 ///
 /// It looks at each item once.
-pub fn chosen<T: Chooses>(
-    alloc: Global,
-    c: &Catalogue,
-    test: &T,
-) -> Result<Items<Item>, AllocError>
+pub fn chosen<T: Chooses>(alloc: Global, c: &Catalogue, test: &T) -> Result<Items<Item>, AllocError>
     ensures { IfOk result (λ items. AreChosen c.now.items (T.fits test.now) items) }
 {
     let mut found = Vec::new(alloc);

@@ -1,8 +1,15 @@
+use Rattle.std.proofs.Common.{sym, subst}
+use Rattle.cat_engine.specs.Steps.{Answers}
+use Rattle.cat_engine.specs.declared.reply.Reply.{Reply}
 use Rattle.cat_engine.proofs.Answering.{answer_refused, answer_done}
 use Rattle.cat_engine.proofs.environment.Environment.answer.Goals as goal
 
 pub returns-in-Ok-execute-clause-ok : goal.returns-in-Ok-execute-clause-ok
-returns-in-Ok-execute-clause-ok c = answer_done _ _ _ _ _ c.in-Ok.statement c.in-Ok.ensures.0 c.in-Ok.ensures.1 c.in-Ok-execute.ensures.0 c.in-Ok-execute.ensures.1
+returns-in-Ok-execute-clause-ok c =
+    let old = c.args.self.now in
+    let new = c.execute.new.self in
+    subst (λ (reply : Reply). Answers c.args.limits.now c.args.number old c.args.text.now reply new) (sym c.success.ensures)
+    (answer_done c.args.limits.now c.args.number old new c.args.text.now c.in-Ok.statement c.in-Ok-execute.warning c.in-Ok.ensures.0 c.in-Ok.ensures.1 c.in-Ok-execute.ensures.0 c.in-Ok-execute.ensures.1)
 
 pub returns-in-Err-Refused-execute-clause-ok : goal.returns-in-Err-Refused-execute-clause-ok
 returns-in-Err-Refused-execute-clause-ok c =

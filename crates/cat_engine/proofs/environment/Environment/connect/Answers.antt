@@ -1,8 +1,8 @@
 use Rattle.std.proofs.Common.{◌≡◌, ◌∙◌, None, ℕ, List, [], ◌∷◌, sym, subst}
+use Rattle.edit_rules.specs.First.{First, Passes}
 use Rattle.cat_engine.specs.ConnectionRefusals.{connection_in_use, unknown_user}
 use Rattle.cat_engine.specs.Contents.{Content}
 use Rattle.cat_engine.specs.Effects.{ChangesSession, connection_of}
-use Rattle.cat_engine.specs.First.{First, Passes}
 use Rattle.cat_engine.specs.Refusals.{connection_name}
 use Rattle.cat_engine.specs.Sessions.{session_of, with_session, connected}
 use Rattle.cat_engine.proofs.Answering.{connect_done}
@@ -26,7 +26,7 @@ returns c =
     c.in_ok-copy.ensures made in
     let before : Content = record { catalogue = c.self.inside.catalogue.items; sessions = c.self.inside.sessions } in
     let after : Content = record { catalogue = c.self.inside.catalogue.items; sessions = c.connect.new.self } in
-    let done = connect_done before c.args.number c.args.parts c.match-connection.name c.connect.new.self named (sym c.has.ensures ∙ c.if-has.false) (so _ _ c.in_ok-is_user.ensures c.if-not-branch.false) then_made in
+    let done = connect_done before c.args.number c.args.parts c.match-connection.name c.connect.new.self named (sym c.has.ensures ∙ c.if-has.false) (so _ _ c.is_user.ensures c.if-not-is_user.false) then_made in
     subst
     (λ (old : Content). Passes (First (connection_in_use old.sessions c.args.number (connection_name c.args.parts) ∷ unknown_user old.catalogue c.args.parts.user ∷ []))
     × ChangesSession c.args.number (λ s. connected s (connection_of c.args.parts)) old after)

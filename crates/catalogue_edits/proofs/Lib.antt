@@ -1,0 +1,5 @@
+pub mod Openings
+pub mod Outcomes
+pub mod Settled
+pub mod SettledGrants
+pub mod Plans

@@ -1,0 +1,122 @@
+-- A catalogue and a statement settle the refusal, the new catalogue and the warning.
+use Rattle.std.proofs.Common.{◌≡◌, ℕ, Bool, List, [], Option, Some, None, length, refl, sym, ◌∙◌, ap, subst}
+use Rattle.sql_tree.specs.declared.statement.SchemaNameClause.{SchemaNameClause}
+use Rattle.sql_tree.specs.declared.statement.Statement.{Statement}
+use Rattle.sql_tree.specs.declared.statement.Statement.TheVariants.{CreateSchema, CreateRole, DropObject, DropRole, GrantPrivileges, GrantRoles, RevokePrivileges, RevokeRoles}
+use Rattle.cat_items.specs.declared.edit.Edit.{Edit}
+use Rattle.cat_items.specs.declared.edit.Refusal.{Refusal}
+use Rattle.cat_items.specs.declared.edit.Refusal.TheVariants.{StillNeeded, CatalogFull}
+use Rattle.cat_items.specs.declared.edit.Who.{Who}
+use Rattle.cat_items.specs.declared.item.Item.{Item}
+use Rattle.cat_items.specs.declared.limits.Limits.{Limits}
+use Rattle.cat_items.specs.Edits.{IsNew}
+use Rattle.support_laws.proofs.Settled.{one_new}
+use Rattle.new_catalogues.specs.Further.{IsLeastFurther}
+use Rattle.new_catalogues.specs.Width.{IsLeastWide}
+use Rattle.new_catalogues.proofs.FurtherLemmas.{one_further}
+use Rattle.new_catalogues.proofs.WidthLemmas.{one_width}
+use Rattle.edit_rules.specs.First.{First}
+use Rattle.edit_rules.proofs.FirstLaws.{IsSettled, AreSettled, first_settled}
+use Rattle.define_edit.specs.CreatedSchemas.{create_schema_refusals}
+use Rattle.drop_edit.proofs.Settled.{drop_settled, drop_refusals_settled}
+use Rattle.role_edit.proofs.Settled.{creation_settled, creation_refusals_settled, grant_settled, grant_refusals_settled, grantor_settled, revoke_settled, revoke_refusals_settled}
+use Rattle.role_edit.proofs.Settled as roles
+use Rattle.grant_edit.specs.Grants.{IsPartial}
+use Rattle.grant_edit.specs.Statements.{privileges_named}
+use Rattle.catalogue_edits.specs.declared.warning.Warning.{Warning}
+use Rattle.catalogue_edits.specs.declared.warning.Warning.TheVariants.{NotGranted, NotRevoked}
+use Rattle.catalogue_edits.specs.Limits.{too_many_items, too_many_columns}
+use Rattle.catalogue_edits.specs.Restrict.{restricted, still_needed}
+use Rattle.catalogue_edits.specs.Revisions.{for_edit, outcome_refusals, revision_refusals, IsRevised}
+use Rattle.catalogue_edits.specs.Statements.{edit_refusals, IsEditOf}
+use Rattle.catalogue_edits.specs.Warnings.{WarnsWhere, IsWarning}
+use Rattle.catalogue_edits.proofs.SettledGrants.{granting_settled, granting_refusals_settled, revocation_settled, revoking_refusals_settled}
+
+-- ---- edits
+
+pub edit_settled : (c : List Item) (who : Who) (s : Statement) (a b : Edit) → IsEditOf c who s a → IsEditOf c who s b → a ≡ b
+edit_settled c who (CreateSchema s) a b p q = p ∙ sym q
+edit_settled c who (DropObject d) a b p q = drop_settled c who (DropObject d) a b p q
+edit_settled c who (CreateRole r) a b p q = creation_settled c who r a b p q
+edit_settled c who (GrantRoles g) a b p q = grant_settled c who g a b p q
+edit_settled c who (RevokeRoles g) a b p q = revoke_settled c who g a b p q
+edit_settled c who (DropRole role) a b p q = roles.drop_settled c role a b p q
+edit_settled c who (GrantPrivileges g) a b p q = granting_settled c who g a b p q
+edit_settled c who (RevokePrivileges g) a b p q = revocation_settled c who g a b p q
+edit_settled c who s a b p q = absurd p
+
+create_schema_settled : (c : List Item) (who : Who) (clause : SchemaNameClause) → AreSettled (create_schema_refusals c who clause)
+create_schema_settled c who clause = ((λ a b p q. p.1 ∙ sym q.1), ((λ a b p q. p.1 ∙ sym q.1), ((λ a b p q. p.2 ∙ sym q.2), ((λ a b p q. p.1 ∙ sym q.1), tt))))
+
+edit_refusals_settled : (c : List Item) (who : Who) (s : Statement) → AreSettled (edit_refusals c who s)
+edit_refusals_settled c who (CreateSchema s) = create_schema_settled c who s.schema
+edit_refusals_settled c who (DropObject d) = drop_refusals_settled c who (DropObject d)
+edit_refusals_settled c who (CreateRole r) = creation_refusals_settled c who r
+edit_refusals_settled c who (GrantRoles g) = grant_refusals_settled c who g
+edit_refusals_settled c who (RevokeRoles g) = revoke_refusals_settled c who g
+edit_refusals_settled c who (DropRole role) = roles.drop_refusals_settled c who role
+edit_refusals_settled c who (GrantPrivileges g) = granting_refusals_settled c who g
+edit_refusals_settled c who (RevokePrivileges g) = revoking_refusals_settled c who g
+edit_refusals_settled c who s = tt
+
+where_settled : (P : Type 0) (kind : Warning) (a b : Option Warning) → WarnsWhere P kind a → WarnsWhere P kind b → a ≡ b
+where_settled P kind None None p q = refl
+where_settled P kind None (Some b) p q = absurd (p q.0)
+where_settled P kind (Some a) None p q = absurd (q p.0)
+where_settled P kind (Some a) (Some b) p q = ap Some (p.1 ∙ sym q.1)
+
+pub warning_settled : (c : List Item) (who : Who) (s : Statement) (edit : Edit) (a b : Option Warning) → IsWarning c who s edit a → IsWarning c who s edit b → a ≡ b
+warning_settled c who (GrantPrivileges g) edit a b p q =
+    let warns : List ℕ → Type 0 = λ n. IsPartial c n g.privileges (privileges_named who g.privileges g.target) in
+    let same : p.0 ≡ q.0 = grantor_settled c who g.grantor p.0 q.0 p.1 q.1 in
+    where_settled (warns q.0) NotGranted a b (subst (λ n. WarnsWhere (warns n) NotGranted a) same p.2) q.2
+warning_settled c who (RevokePrivileges g) edit a b p q = where_settled (edit.target ≡ []) NotRevoked a b p q
+warning_settled c who (RevokeRoles g) edit a b p q = where_settled (edit.target ≡ []) NotRevoked a b p q
+warning_settled c who s edit a b p q = p ∙ sym q
+
+-- ---- outcomes
+
+still_needed_settled : (c : List Item) (restrict : Option Bool) (edit : Edit) → IsSettled (still_needed c restrict edit)
+still_needed_settled c None edit a b p q = absurd p
+still_needed_settled c (Some by_rights) edit a b p q =
+    let same : p.0 ≡ q.0 = one_new c edit p.0 q.0 p.1 q.1 in
+    let item : p.2.0 ≡ q.2.0 = one_further c edit q.0 p.2.0 q.2.0 (subst (λ n. IsLeastFurther c edit n p.2.0) same p.2.1) q.2.1 in
+    p.2.2 ∙ ap (λ x. StillNeeded x by_rights) item ∙ sym q.2.2
+
+too_many_items_settled : (limits : Limits) (c : List Item) (edit : Edit) → IsSettled (too_many_items limits c edit)
+too_many_items_settled limits c edit a b p q =
+    let same : p.0 ≡ q.0 = one_new c edit p.0 q.0 p.1 q.1 in
+    p.3 ∙ ap (λ (l : List Item). CatalogFull (length l)) same ∙ sym q.3
+
+too_many_columns_settled : (limits : Limits) (c : List Item) (edit : Edit) → IsSettled (too_many_columns limits c edit)
+too_many_columns_settled limits c edit a b p q =
+    let same : p.0 ≡ q.0 = one_new c edit p.0 q.0 p.1 q.1 in
+    let count : p.2.0 ≡ q.2.0 = one_width q.0 limits.columns p.2.0 q.2.0 (subst (λ n. IsLeastWide n limits.columns p.2.0) same p.2.1) q.2.1 in
+    p.2.2 ∙ ap CatalogFull count ∙ sym q.2.2
+
+outcome_settled : (limits : Limits) (c : List Item) (restrict : Option Bool) (edit : Edit) → AreSettled (outcome_refusals limits c restrict edit)
+outcome_settled limits c restrict edit = (still_needed_settled c restrict edit, (too_many_items_settled limits c edit, (too_many_columns_settled limits c edit, tt)))
+
+-- ---- revisions
+
+for_edit_settled : (c : List Item) (who : Who) (s : Statement) (test : Edit → Refusal → Type 0) → ((edit : Edit) → IsSettled (test edit)) → IsSettled (for_edit c who s test)
+for_edit_settled c who s test settled a b p q =
+    let same : p.0 ≡ q.0 = edit_settled c who s p.0 q.0 p.1 q.1 in
+    settled p.0 a b p.2 (subst (λ e. test e b) (sym same) q.2)
+
+pub refusal_settled : (limits : Limits) (c : List Item) (who : Who) (s : Statement) → IsSettled (First (revision_refusals limits c who s))
+refusal_settled limits c who s = first_settled (revision_refusals limits c who s) (
+  first_settled (edit_refusals c who s) (edit_refusals_settled c who s),
+  (
+    for_edit_settled c who s (λ edit. First (outcome_refusals limits c (restricted s) edit))
+        (λ edit. first_settled (outcome_refusals limits c (restricted s) edit) (outcome_settled limits c (restricted s) edit)),
+    tt,
+  ),
+)
+
+pub revision_settled : (c : List Item) (who : Who) (s : Statement) (warning other : Option Warning) (new next : List Item) → IsRevised c who s warning new → IsRevised c who s other next → (warning ≡ other) × (new ≡ next)
+revision_settled c who s warning other new next p q =
+    let same : p.edit ≡ q.edit = edit_settled c who s p.edit q.edit p.is_edit q.is_edit in (
+      warning_settled c who s q.edit warning other (subst (λ e. IsWarning c who s e warning) same p.warns) q.warns,
+      one_new c q.edit new next (subst (λ e. IsNew c e new) same p.is_new) q.is_new,
+    )

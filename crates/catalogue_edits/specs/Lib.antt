@@ -1,0 +1,5 @@
+pub mod Limits
+pub mod Restrict
+pub mod Revisions
+pub mod Statements
+pub mod Warnings

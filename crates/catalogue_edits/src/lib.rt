@@ -1,0 +1,14 @@
+//! Statements that edit a catalogue: what each makes of it, what it warns of, and why it is refused.
+#![tactic(auto)]
+
+mod laws;
+mod outcome;
+mod plan;
+mod revisions;
+#[cfg(test)]
+mod tests;
+mod warning;
+
+pub use laws::{a_refusal_is_settled, a_revision_is_settled};
+pub use revisions::{is_edit, revise};
+pub use warning::Warning;
