@@ -53,9 +53,13 @@ name_of x = None
 abbrev pub IsAuthorizationName : List ℕ → Type 0
 IsAuthorizationName name = (name ≢ codes "PUBLIC") × (name ≢ codes "_SYSTEM")
 
+-- a constraint of a table is in the schema of its table
 abbrev pub HasAllowedName : Item → Type 0
 HasAllowedName (item.User n) = IsAuthorizationName n
 HasAllowedName (item.Role n) = IsAuthorizationName n
+HasAllowedName (item.Key k) = k.name.schema ≡ k.table.schema
+HasAllowedName (item.Foreign f) = f.name.schema ≡ f.table.schema
+HasAllowedName (item.Check c) = c.name.schema ≡ c.table.schema
 HasAllowedName x = Unit {0}
 
 -- the table's own columns that a condition uses, by bytes

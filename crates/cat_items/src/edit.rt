@@ -30,27 +30,43 @@ pub struct Edit {
 pub enum Refusal {
     /// A piece of the text is no token; the offset counts bytes from the text's start.
     BadToken { offset: usize },
+    /// The text has no tree, or its kind isn't built.
     Syntax,
+    /// The text begins as a statement that the profile leaves out.
     NotInProfile,
+    /// The session has no such connection, or none is current.
     NotConnected,
+    /// The session has a connection of the name of the new one.
     ConnectionInUse,
+    /// CONNECT names no user.
     UnknownUser,
+    /// What must stand doesn't: an authorization or a schema as one name, an object as two, a column as three.
     UnknownName { path: Path },
+    /// Neither the user nor an enabled role owns the schema.
     NotOwner { schema: Name },
     /// The least need that isn't met.
     NoPrivilege { need: Need },
     /// The least further item. `by_rights`: the statement is REVOKE or DROP ROLE.
     StillNeeded { item: Item, by_rights: bool },
+    /// What is made has a name that is taken, as one name or, of an object, two.
     NameExists { path: Path },
+    /// Role grants would lead from a role back to itself.
     RoleCycle,
-    /// `current`: CURRENT_ROLE where there is none.
+    /// No role that the user reaches is named. `current`: CURRENT_ROLE where there is none.
     InvalidRole { current: bool },
+    /// Types don't fit.
     TypeMismatch,
+    /// The target of a foreign key has no such key.
     NoSuchKey,
+    /// The column is the only one of its table.
     OnlyColumn,
+    /// What may come once comes twice: a name alone, or the table with a second PRIMARY KEY.
     Repeated { path: Path },
+    /// The name is reserved for the system.
     NameReserved,
+    /// A reference fits two columns, or a qualifier two tables.
     Ambiguous { name: Name },
+    /// How many items the new catalogue would have, or columns a table or view of it, or the greatest place of a column.
     CatalogFull { count: u64 },
 }
 
