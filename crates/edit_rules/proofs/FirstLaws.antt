@@ -1,12 +1,12 @@
 -- Which refusal comes first.
-use Rattle.std.proofs.Common.{◌≡◌, List, [], ◌∷◌, ◌++◌, sym, subst, inl, inr}
+use Rattle.std.proofs.Common.{◌≡◌, List, [], ◌∷◌, ◌++◌, map, sym, subst, inl, inr}
 use Rattle.cat_items.specs.declared.edit.Refusal.{Refusal}
 use Rattle.std.specs.Result.{IsErrAnd}
 use Rattle.std.specs.declared.result.Result.{Result}
 use Rattle.std.specs.declared.result.Result.TheVariants.{Ok, Err}
 use Rattle.cat_items.specs.declared.edit.EditError.{EditError}
 use Rattle.cat_items.specs.declared.edit.EditError.TheVariants.{Refused, Memory}
-use Rattle.edit_rules.specs.First.{First, Passes, Tested, IsTested}
+use Rattle.edit_rules.specs.First.{First, Passes, Tested, IsTested, tests_of}
 
 -- where no test is left, nothing refuses
 pub passes_none : Passes (First [])
@@ -40,6 +40,21 @@ first_settled (test ∷ tests) all a b p q =
     ]
 
 -- tests behind others
+pub settled_append : (a b : List (Refusal → Type 0)) → AreSettled a → AreSettled b → AreSettled (a ++ b)
+settled_append [] b p q = q
+settled_append (test ∷ a) b p q = (p.0, settled_append a b p.1 q)
+
+-- one test for each member of a list
+pub settled_map : {X : Type 0} (test : X → Refusal → Type 0) → ((x : X) → IsSettled (test x)) → (xs : List X) → AreSettled (map test xs)
+settled_map test each [] = tt
+settled_map test each (x ∷ xs) = (each x, settled_map test each xs)
+
+-- the tests of each member
+pub settled_each : {X : Type 0} (tests : X → List (Refusal → Type 0)) → ((x : X) → AreSettled (tests x)) → (xs : List X) → AreSettled (tests_of tests xs)
+settled_each tests each [] = tt
+settled_each tests each (x ∷ xs) = settled_append (tests x) (tests_of tests xs) (each x) (settled_each tests each xs)
+
+-- a refusal by tests in front of others, and by tests behind those that pass
 pub first_left : (tests others : List (Refusal → Type 0)) (refusal : Refusal) → First tests refusal → First (tests ++ others) refusal
 first_left [] others refusal h = absurd h
 first_left (test ∷ tests) others refusal h = elim h [ inl r ↦ inl r | inr r ↦ inr (r.0, first_left tests others refusal r.1) ]

@@ -1,10 +1,8 @@
 -- The least need that isn't met.
-use Rattle.std.proofs.Common.{◌≡◌, ◌≢◌, ◌⊎◌, ◌↔◌, ℕ, suc, ◌≤◌, ◌+◌, ◌<◌, Bool, true, false, List, [], ◌∷◌, ◌++◌, Option, Some, None, Ordering, length, take, get_or, ap, sym, subst, refl, ◌∙◌, inl, inr, arith}
+use Rattle.std.proofs.Common.{◌≡◌, ◌≢◌, ◌⊎◌, ℕ, ◌≤◌, ◌+◌, ◌<◌, Bool, false, List, [], ◌∷◌, ◌++◌, Option, Some, None, Ordering, length, take, get_or, ap, sym, subst, refl, ◌∙◌, inl, inr}
 use Rattle.std.specs.List.{Contains}
-use Rattle.std.specs.Ordering.{is_le, ordering_reverse}
+use Rattle.std.specs.Ordering.{ordering_reverse}
 use Rattle.std.specs.declared.cmp.Ordering.TheVariants.{Less, Equal, Greater}
-use Rattle.std.proofs.Math.Seq.{take-suc}
-use Rattle.std.proofs.lemmas.List.{take_all}
 use Rattle.std.proofs.lemmas.Cmp.{tied_itself}
 use Rattle.std.proofs.lemmas.List.Elements.{Contains-append_left, Contains-append_right, Contains-push_cases}
 use Rattle.finite_chains.proofs.Members.{Contains-nil, Contains-head}
@@ -15,14 +13,9 @@ use Rattle.cat_items.specs.Order.{need_cmp}
 use Rattle.cat_items.specs.Rights.{Met}
 use Rattle.cat_items.proofs.OrderLemmas.{need_cmp-total}
 use Rattle.edit_rules.specs.Privileges.{IsBehind, IsLeastNeed, IsLeastUnmet, IsUnmet}
+use Rattle.edit_rules.proofs.Lists.{take_next, take_whole}
 
--- no need comes before another where the one isn't greater
-pub at_most : (o : Ordering) → (is_le o ≡ true) ↔ (o ≢ Greater)
-at_most Less = (λ _ e. cc, λ _. refl)
-at_most Equal = (λ _ e. cc, λ _. refl)
-at_most Greater = (λ e. cc, λ n. absurd (n refl))
-
-greater_if_not : (o : Ordering) → (o ≢ Greater → ⊥) → o ≡ Greater
+pub greater_if_not : (o : Ordering) → (o ≢ Greater → ⊥) → o ≡ Greater
 greater_if_not Less n = absurd (n (λ e. cc))
 greater_if_not Equal n = absurd (n (λ e. cc))
 greater_if_not Greater n = refl
@@ -30,11 +23,12 @@ greater_if_not Greater n = refl
 not_greater : (a b : Need) → need_cmp a b ≡ Less → need_cmp a b ≢ Greater
 not_greater a b less greater = cc
 
-itself : (a : Need) → need_cmp a a ≢ Greater
+-- no need comes before itself
+pub itself : (a : Need) → need_cmp a a ≢ Greater
 itself a greater = let tied = tied_itself need_cmp-total a in cc
 
 -- what is before the least is before all
-before_all : (x least other : Need) → need_cmp least x ≡ Greater → need_cmp least other ≢ Greater → need_cmp x other ≢ Greater
+pub before_all : (x least other : Need) → need_cmp least x ≡ Greater → need_cmp least other ≢ Greater → need_cmp x other ≢ Greater
 before_all x least other greater most = by (need_cmp least other) refl
   where
     before : need_cmp x least ≡ Less
@@ -84,23 +78,14 @@ module _ (c : List Item) (owner : List ℕ) where
     ];
   }
 
-  grown : (needs shown : List Need) (k : ℕ) (x : Need) → shown ≡ needs → k < length shown → x ≡ get_or shown k x → take (k + 1) needs ≡ take k needs ++ x ∷ []
-  grown needs shown k x same low is =
-      let here : x ≡ get_or needs k x = subst (λ l. x ≡ get_or l k x) same is in
-      let within : k < length needs = subst (λ l. k < length l) same low in
-      let n : k + 1 ≡ suc k = omega arith in
-      ap (λ j. take j needs) n ∙ take-suc needs k x within ∙ ap (λ y. take k needs ++ y ∷ []) (sym here)
-
   pub unmet_stays : (needs shown : List Need) (k : ℕ) (least : Option Need) (x : Need) → shown ≡ needs → k < length shown → x ≡ get_or shown k x
       → IsLeastUnmet c owner (take k needs) least → IsBehind least x ⊎ IsMet x → IsLeastUnmet c owner (take (k + 1) needs) least
-  unmet_stays needs shown k least x same low is old why = subst (λ l. IsLeastUnmet c owner l least) (sym (grown needs shown k x same low is)) (stays (take k needs) least x old why)
+  unmet_stays needs shown k least x same low is old why = subst (λ l. IsLeastUnmet c owner l least) (sym (take_next needs shown k same x low is)) (stays (take k needs) least x old why)
 
   pub unmet_comes : (needs shown : List Need) (k : ℕ) (least : Option Need) (x : Need) → shown ≡ needs → k < length shown → x ≡ get_or shown k x
       → IsLeastUnmet c owner (take k needs) least → (IsBehind least x → ⊥) → (¬ (IsMet x)) → IsLeastUnmet c owner (take (k + 1) needs) (Some x)
-  unmet_comes needs shown k least x same low is old before unmet = subst (λ l. IsLeastUnmet c owner l (Some x)) (sym (grown needs shown k x same low is)) (comes (take k needs) least x old before unmet)
+  unmet_comes needs shown k least x same low is old before unmet = subst (λ l. IsLeastUnmet c owner l (Some x)) (sym (take_next needs shown k same x low is)) (comes (take k needs) least x old before unmet)
 
   -- all needs have been looked at
   pub unmet_done : (needs shown : List Need) (k : ℕ) (least : Option Need) → shown ≡ needs → length shown ≤ k → IsLeastUnmet c owner (take k needs) least → IsLeastUnmet c owner needs least
-  unmet_done needs shown k least same high old =
-      let all : length needs ≤ k = subst (λ l. length l ≤ k) same high in
-      subst (λ l. IsLeastUnmet c owner l least) (take_all k needs all) old
+  unmet_done needs shown k least same high old = subst (λ l. IsLeastUnmet c owner l least) (take_whole needs shown k same high) old

@@ -1,5 +1,5 @@
 -- The first of some tests that refuses.
-use Rattle.std.specs.Prelude.{◌⊎◌, List, [], ◌∷◌}
+use Rattle.std.specs.Prelude.{◌⊎◌, List, [], ◌∷◌, ◌++◌}
 use Rattle.std.specs.declared.result.Result.{Result}
 use Rattle.std.specs.declared.result.Result.TheVariants.{Ok, Err}
 use Rattle.cat_items.specs.declared.edit.EditError.{EditError}
@@ -9,6 +9,11 @@ use Rattle.cat_items.specs.declared.edit.Refusal.{Refusal}
 -- a test refuses with no refusal
 abbrev pub Passes : (Refusal → Type 0) → Type 0
 Passes test = (refusal : Refusal) → ¬ (test refusal)
+
+-- the tests of each member, one after the other
+abbrev pub tests_of : {X : Type 0} → (X → List (Refusal → Type 0)) → List X → List (Refusal → Type 0)
+tests_of tests [] = []
+tests_of tests (x ∷ xs) = tests x ++ tests_of tests xs
 
 -- the refusal is that of the first test that refuses
 abbrev pub First : List (Refusal → Type 0) → Refusal → Type 0

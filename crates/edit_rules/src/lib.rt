@@ -14,4 +14,4 @@ pub use names::{
     test_new_constraint, test_new_table, test_role, test_schema,
 };
 pub use owners::{current_role, grantor_of, test_owner};
-pub use privileges::test_privileges;
+pub use privileges::{is_behind, test_privileges};

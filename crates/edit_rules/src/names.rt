@@ -16,7 +16,8 @@ use cat_items::{
 use sql_tree::{Name, Object, ObjectName, Path};
 use std::alloc::AllocError;
 
-/// The object that a name stands for: in this schema, the session's, where it names none.
+/// The object that a name stands for: in this schema, the session's, where it names none (SQL:2003 part 2, 5.4).
+/// `Err` is want of memory.
 pub fn object_in(schema: &Name, name: &ObjectName) -> Result<Object, AllocError>
     ensures { IfOk result (λ object. object ≡ spec.object_in schema.now name.now) }
 {
@@ -29,7 +30,7 @@ pub fn object_in(schema: &Name, name: &ObjectName) -> Result<Object, AllocError>
     }
 }
 
-/// The path of an object.
+/// The path of an object: its schema and its name. `Err` is want of memory.
 pub fn path_of(object: &Object) -> Result<Path, AllocError>
     ensures { IfOk result (λ path. path ≡ rights.path_of object.now) }
 {
@@ -140,7 +141,8 @@ fn is_constraint_of(c: &Catalogue, kind: ObjectKind, name: &Object) -> bool
     false
 }
 
-/// Whether a constraint or an assertion has this name. It takes no memory.
+/// Whether a constraint, of a table or of a domain, or an assertion has this name: they have one set of names. It takes
+/// no memory.
 pub fn is_constraint(c: &Catalogue, name: &Object) -> bool
     ensures { IsTrue result ↔ Has c.now.items (spec.IsConstraint name.now) }
 {
@@ -159,7 +161,7 @@ pub fn is_constraint(c: &Catalogue, name: &Object) -> bool
     false
 }
 
-/// Refuses a name that no user and no role has.
+/// Refuses a name that no user and no role has (SQL:2003 part 2, 5.4): `UnknownName` of that name. `Memory` is want of memory.
 pub fn test_authorization(c: &Catalogue, name: &Name) -> Result<(), EditError>
     ensures { HasPassed (spec.unknown_authorization c.now.items name.now ∷ []) result }
 {
@@ -170,7 +172,7 @@ pub fn test_authorization(c: &Catalogue, name: &Name) -> Result<(), EditError>
     Err(EditError::Refused(Refusal::UnknownName { path }))
 }
 
-/// Refuses a name that no role has.
+/// Refuses a name that no role has, also a user's: `UnknownName` of that name. `Memory` is want of memory.
 pub fn test_role(c: &Catalogue, name: &Name) -> Result<(), EditError>
     ensures { HasPassed (spec.unknown_role c.now.items name.now ∷ []) result }
 {
@@ -181,7 +183,7 @@ pub fn test_role(c: &Catalogue, name: &Name) -> Result<(), EditError>
     Err(EditError::Refused(Refusal::UnknownName { path }))
 }
 
-/// Refuses a name that no schema has.
+/// Refuses a name that no schema has: `UnknownName` of that name. `Memory` is want of memory.
 pub fn test_schema(c: &Catalogue, name: &Name) -> Result<(), EditError>
     ensures { HasPassed (spec.unknown_schema c.now.items name.now ∷ []) result }
 {
@@ -192,7 +194,7 @@ pub fn test_schema(c: &Catalogue, name: &Name) -> Result<(), EditError>
     Err(EditError::Refused(Refusal::UnknownName { path }))
 }
 
-/// Refuses a name that no base table has.
+/// Refuses a name that no base table has, also a view's: `UnknownName` of its schema and its name. `Memory` is want of memory.
 pub fn test_base_table(c: &Catalogue, table: &Object) -> Result<(), EditError>
     ensures { HasPassed (spec.unknown_base_table c.now.items table.now ∷ []) result }
 {
@@ -203,7 +205,8 @@ pub fn test_base_table(c: &Catalogue, table: &Object) -> Result<(), EditError>
     Err(EditError::Refused(Refusal::UnknownName { path }))
 }
 
-/// Refuses a name that no column of the table or view has.
+/// Refuses a name that no column of the table or view has, also where that doesn't stand: `UnknownName` of its schema, its
+/// name and the column. `Memory` is want of memory.
 pub fn test_column(c: &Catalogue, table: &Object, name: &Name) -> Result<(), EditError>
     ensures { HasPassed (spec.unknown_column c.now.items table.now name.now ∷ []) result }
 {
@@ -214,7 +217,8 @@ pub fn test_column(c: &Catalogue, table: &Object, name: &Name) -> Result<(), Edi
     Err(EditError::Refused(Refusal::UnknownName { path }))
 }
 
-/// Refuses a name that a constraint or an assertion has.
+/// Refuses a name that a constraint, of a table or of a domain, or an assertion has (SQL:2003 part 2, 10.8): `NameExists` of
+/// its schema and its name. `Memory` is want of memory.
 pub fn test_new_constraint(c: &Catalogue, name: &Object) -> Result<(), EditError>
     ensures { HasPassed (spec.constraint_exists c.now.items name.now ∷ []) result }
 {
@@ -225,7 +229,8 @@ pub fn test_new_constraint(c: &Catalogue, name: &Object) -> Result<(), EditError
     Err(EditError::Refused(Refusal::NameExists { path }))
 }
 
-/// Refuses a name that a base table or a view has.
+/// Refuses a name that a base table or a view has (SQL:2003 part 2, 11.3): `NameExists` of its schema and its name. `Memory`
+/// is want of memory.
 pub fn test_new_table(c: &Catalogue, table: &Object) -> Result<(), EditError>
     ensures { HasPassed (spec.table_exists c.now.items table.now ∷ []) result }
 {

@@ -11,7 +11,8 @@ use role_graph::{Actor, Walk};
 use sql_tree::{Grantor, Name};
 use std::alloc::{AllocError, Global};
 
-/// The role that is set, where the user reaches it; `Err` is want of memory.
+/// The role that is set, where the user reaches it (SQL:2003 part 2, 4.34); none where none is set or the user doesn't
+/// reach it. `Err` is want of memory.
 pub fn current_role(alloc: Global, c: &Catalogue, who: &Who) -> Result<Option<Name>, AllocError>
     ensures found { IfOk result (λ role. IfSome role (IsCurrentRole c.now.items who.now)) }
     ensures none { IfOk result (λ role. IfNone role ((name : List ℕ) → IsCurrentRole c.now.items who.now name → ⊥)) }
@@ -40,10 +41,12 @@ fn acts_for(alloc: Global, c: &Catalogue, who: &Who, name: &Name) -> Result<bool
     Ok(walk.reaches_by(c, None, Actor::Named(&role), Actor::Named(name)))
 }
 
-/// Refuses who doesn't act for the owner of this schema, and a schema that doesn't stand.
+/// Refuses a statement whose user and enabled roles aren't the owner of this schema, also where it doesn't stand (SQL:2003
+/// part 2, 4.34 and the access rules of 11): `NotOwner` of the schema. `Memory` is want of memory.
 pub fn test_owner(alloc: Global, c: &Catalogue, who: &Who, schema: &Name) -> Result<(), EditError>
     ensures { HasPassed (not_owner c.now.items who.now schema.now ∷ []) result }
 {
+    // What the proof takes from it: the items are in order.
     let _ = c.items();
     if let Some(owner) = owner_of(c, schema) {
         if acts_for(alloc, c, who, owner)? {
@@ -61,7 +64,8 @@ fn is_role_named(by: Option<Grantor>) -> bool
     matches!(by, Some(Grantor::CurrentRole))
 }
 
-/// The name of who grants or revokes. CURRENT_ROLE is refused where there is none.
+/// The name of who grants or revokes: the user, or the current role where CURRENT_ROLE is said (SQL:2003 part 2, 12.1 and
+/// 12.7). CURRENT_ROLE is refused where there is none: `InvalidRole`. `Memory` is want of memory.
 pub fn grantor_of(
     alloc: Global,
     c: &Catalogue,

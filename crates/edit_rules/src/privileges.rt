@@ -12,8 +12,9 @@ use role_graph::{Actor, Walk};
 use sql_tree::{Items, Name};
 use std::alloc::Global;
 
-/// Whether a need doesn't come before the least so far.
-fn is_behind(least: Option<&Need>, need: &Need) -> bool
+/// Whether a need doesn't come before the least so far, in the order of needs. Where there is none so far, each need does.
+/// It takes no memory.
+pub fn is_behind(least: Option<&Need>, need: &Need) -> bool
     ensures { IsTrue result ↔ IsBehind (option_copied least.entry) need.now }
 {
     match least {
@@ -43,7 +44,8 @@ fn least_unmet<'a>(
     least
 }
 
-/// Refuses the least of these needs that isn't met for the user or role of this name.
+/// Refuses where a need isn't met for the user or role of this name, with a grant option or without (SQL:2003 part 2, 12.3):
+/// `NoPrivilege` of the least need of these that isn't. `Memory` is want of memory.
 pub fn test_privileges(
     alloc: Global,
     c: &Catalogue,

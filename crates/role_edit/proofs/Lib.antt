@@ -4,4 +4,3 @@ pub mod Options
 pub mod RoleLists
 pub mod Settled
 pub mod Taking
-pub mod Testing

@@ -1,5 +1,5 @@
 -- Admin options that the grantor lacks.
-use Rattle.std.proofs.Common.{◌≡◌, ℕ, List, [], ◌∷◌, ◌++◌, map, Option, subst, sym, inl}
+use Rattle.std.proofs.Common.{◌≡◌, ℕ, List, [], ◌∷◌, ◌++◌, map, Option, subst, sym, inl, inr}
 use Rattle.std.specs.declared.result.Result.TheVariants.{Err}
 use Rattle.sql_tree.specs.declared.rights.Grantor.{Grantor}
 use Rattle.cat_items.specs.declared.edit.EditError.{EditError}
@@ -13,9 +13,12 @@ use Rattle.edit_rules.specs.First.{First, Passes, IsTested, HasPassed}
 use Rattle.edit_rules.specs.Grantors.{IsGrantor}
 use Rattle.edit_rules.specs.Privileges.{lacks_privilege}
 use Rattle.edit_rules.proofs.FirstLaws.{first_left, first_right, passes_one, passes_that}
+use Rattle.edit_rules.proofs.Settled.{grantor_settled}
 use Rattle.role_edit.specs.GrantedRoles.{lacks_admin_option}
-use Rattle.role_edit.proofs.Settled.{grantor_settled}
-use Rattle.role_edit.proofs.Testing.{one_refuses}
+
+-- a refusal by one test
+one_refuses : (test : Refusal → Type 0) (r : Refusal) → First (test ∷ []) r → test r
+one_refuses test r h = elim h [ inl t ↦ t | inr o ↦ absurd o.1 ]
 
 -- where all tests pass, so do the later ones
 pub passes_behind : (a b : List (Refusal → Type 0)) → Passes (First (a ++ b)) → Passes (First b)

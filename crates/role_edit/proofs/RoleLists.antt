@@ -1,13 +1,13 @@
 -- Lists of role grants, role by role and grantee by grantee.
 use Rattle.std.proofs.Common.{◌≡◌, ◌⊎◌, ◌↔◌, inl, inr, ℕ, ◌+◌, ◌<◌, Bool, true, false, List, [], ◌∷◌, ◌++◌, length, get_or, take, sym, subst, ap, refl, ◌∙◌}
 use Rattle.std.specs.List.{Contains}
-use Rattle.std.proofs.lemmas.List.{take_more}
 use Rattle.std.proofs.lemmas.List.Elements.{Contains-append_left, Contains-append_right, Contains-append_cases}
 use Rattle.finite_chains.proofs.Members.{Contains-nil, Contains-head, Contains-cases}
 use Rattle.cat_items.specs.declared.item.Item.{Item}
 use Rattle.cat_items.specs.declared.item.Item.TheVariants as item
 use Rattle.cat_items.specs.declared.item.RoleGrant.{RoleGrant}
 use Rattle.cat_items.specs.declared.need.Auth.TheVariants.{Named}
+use Rattle.edit_rules.proofs.Lists.{take_next}
 use Rattle.role_edit.specs.GrantedRoles.{IsGrantBy, IsGrantedRole}
 
 abbrev pub one_grant : List ℕ → List ℕ → List ℕ → RoleGrant
@@ -113,14 +113,11 @@ by_roles grantor a b grantees option (item.RoleAdmin g) = (to, from)
     from (inr (so, by)) = (so, record { by = by.by; role = Contains-append_right a b g.role by.role; grantee = by.grantee })
 by_roles grantor a b grantees option _ = (λ h. absurd h, λ h. elim h [ inl p ↦ p | inr p ↦ p ])
 
-grown : (xs shown : List (List ℕ)) (i : ℕ) (x : List ℕ) → shown ≡ xs → i < length shown → x ≡ get_or shown i x → take (i + 1) xs ≡ take i xs ++ x ∷ []
-grown xs shown i x same low is = subst (λ l. take (i + 1) l ≡ take i l ++ x ∷ []) same (take_more shown i x low ∙ ap (λ y. take i shown ++ y ∷ []) (sym is))
-
 -- one grantee more
 pub more_grantees : (grantor : List ℕ) (roles grantees shown : List (List ℕ)) (option : Bool) (old mid new : List Item) (i : ℕ) (x : List ℕ) → shown ≡ grantees → i < length shown → x ≡ get_or shown i x
     → Grows old mid (IsGrantedRole grantor roles (take i grantees) option) → Grows mid new (IsGrantedRole grantor roles (x ∷ []) option) → Grows old new (IsGrantedRole grantor roles (take (i + 1) grantees) option)
 more_grantees grantor roles grantees shown option old mid new i x same low is first second =
-    subst (λ l. Grows old new (IsGrantedRole grantor roles l option)) (sym (grown grantees shown i x same low is)) (λ y. (to y, from y))
+    subst (λ l. Grows old new (IsGrantedRole grantor roles l option)) (sym (take_next grantees shown i same x low is)) (λ y. (to y, from y))
   where
     to : (y : Item) → Contains new y → Contains old y ⊎ IsGrantedRole grantor roles (take i grantees ++ x ∷ []) option y
     to y h = elim ((second y).0 h) [
@@ -136,7 +133,7 @@ more_grantees grantor roles grantees shown option old mid new i x same low is fi
 pub more_roles : (grantor : List ℕ) (roles shown grantees : List (List ℕ)) (option : Bool) (mid new : List Item) (i : ℕ) (x : List ℕ) → shown ≡ roles → i < length shown → x ≡ get_or shown i x
     → ((y : Item) → Contains mid y ↔ IsGrantedRole grantor (take i roles) grantees option y) → Grows mid new (IsGrantedRole grantor (x ∷ []) grantees option) → (y : Item) → Contains new y ↔ IsGrantedRole grantor (take (i + 1) roles) grantees option y
 more_roles grantor roles shown grantees option mid new i x same low is first second =
-    subst (λ l. (y : Item) → Contains new y ↔ IsGrantedRole grantor l grantees option y) (sym (grown roles shown i x same low is)) (λ y. (to y, from y))
+    subst (λ l. (y : Item) → Contains new y ↔ IsGrantedRole grantor l grantees option y) (sym (take_next roles shown i same x low is)) (λ y. (to y, from y))
   where
     to : (y : Item) → Contains new y → IsGrantedRole grantor (take i roles ++ x ∷ []) grantees option y
     to y h = elim ((second y).0 h) [

@@ -1,61 +1,24 @@
 -- A statement on roles has at most one refusal, and makes at most one edit.
-use Rattle.std.proofs.Common.{◌≡◌, ℕ, List, [], ◌∷◌, ◌++◌, map, Option, Some, None, refl, sym, subst, ap, ◌∙◌}
-use Rattle.std.specs.Ordering.{ordering_reverse}
-use Rattle.std.specs.declared.cmp.Ordering.{Ordering}
-use Rattle.std.specs.declared.cmp.Ordering.TheVariants.{Less, Equal, Greater}
+use Rattle.std.proofs.Common.{◌≡◌, ℕ, List, [], ◌∷◌, map, Option, sym, subst, ap, ◌∙◌}
 use Rattle.sql_tree.specs.declared.rights.Grantor.{Grantor}
-use Rattle.sql_tree.specs.declared.rights.Grantor.TheVariants.{CurrentUser, CurrentRole}
 use Rattle.sql_tree.specs.declared.statement.CreateRole.{CreateRole}
 use Rattle.sql_tree.specs.declared.statement.GrantRoles.{GrantRoles}
 use Rattle.sql_tree.specs.declared.statement.RevokeRoles.{RevokeRoles}
 use Rattle.cat_items.specs.declared.edit.Edit.{Edit}
-use Rattle.cat_items.specs.declared.edit.Refusal.{Refusal}
-use Rattle.cat_items.specs.declared.edit.Refusal.TheVariants.{NoPrivilege}
 use Rattle.cat_items.specs.declared.edit.Who.{Who}
 use Rattle.cat_items.specs.declared.item.Item.{Item}
-use Rattle.cat_items.specs.declared.need.Need.{Need}
-use Rattle.cat_items.specs.Order.{need_cmp}
 use Rattle.cat_items.specs.Rights.{admin}
-use Rattle.cat_items.proofs.OrderLemmas.{need_cmp-total}
-use Rattle.edit_rules.specs.Grantors.{IsGrantor, no_current_role}
+use Rattle.edit_rules.specs.Grantors.{no_current_role}
 use Rattle.edit_rules.specs.Names.{unknown_authorization, unknown_role}
-use Rattle.edit_rules.specs.Privileges.{IsLeastNeed, lacks_privilege}
-use Rattle.edit_rules.proofs.FirstLaws.{IsSettled, AreSettled}
+use Rattle.edit_rules.specs.Privileges.{lacks_privilege}
+use Rattle.edit_rules.proofs.FirstLaws.{IsSettled, AreSettled, settled_append, settled_map}
+use Rattle.edit_rules.proofs.Settled.{grantor_settled, lacks_settled}
 use Rattle.edit_lists.specs.Chosen.{IsAdding, IsTaking}
-use Rattle.edit_lists.proofs.ItemKeys.{need_cmp-is}
 use Rattle.edit_lists.proofs.SettledEdits.{adding_settled, taking_settled}
 use Rattle.role_edit.specs.CreatedRoles.{create_role_refusals, creating_role, IsRoleCreation}
 use Rattle.role_edit.specs.DroppedRoles.{drop_role_refusals, IsOfRole, IsRoleDrop}
 use Rattle.role_edit.specs.GrantedRoles.{name_refusals, grant_roles_refusals, lacks_admin_option, IsGrantedRole, IsRoleGrantEdit}
 use Rattle.role_edit.specs.RevokedRoles.{revoke_roles_refusals, IsIdentified, IsRoleRevokeEdit}
-
-pub settled_append : (a b : List (Refusal → Type 0)) → AreSettled a → AreSettled b → AreSettled (a ++ b)
-settled_append [] b p q = q
-settled_append (test ∷ a) b p q = (p.0, settled_append a b p.1 q)
-
-pub settled_map : {X : Type 0} (test : X → Refusal → Type 0) → ((x : X) → IsSettled (test x)) → (xs : List X) → AreSettled (map test xs)
-settled_map test each [] = tt
-settled_map test each (x ∷ xs) = (each x, settled_map test each xs)
-
--- a test that says one thing
-one_thing : (Q : Type 0) (told : Refusal) → IsSettled (λ r. Q × (r ≡ told))
-one_thing Q told a b p q = p.1 ∙ sym q.1
-
-pub grantor_settled : (c : List Item) (who : Who) (by : Option Grantor) (a b : List ℕ) → IsGrantor c who by a → IsGrantor c who by b → a ≡ b
-grantor_settled c who (Some CurrentRole) a b p q = let same : Some a ≡ Some b = sym p.0 ∙ q.0 in cc
-grantor_settled c who (Some CurrentUser) a b p q = p ∙ sym q
-grantor_settled c who None a b p q = p ∙ sym q
-
-pub least_settled : (P : Need → Type 0) (a b : Need) → IsLeastNeed P a → IsLeastNeed P b → a ≡ b
-least_settled P a b p q = need_cmp-is a b (by (need_cmp a b) (p.least b q.is) (λ e. q.least a p.is (need_cmp-total.antisymm b a ∙ ap ordering_reverse e)))
-  where
-    by : (o : Ordering) → (o ≡ Greater → ⊥) → (o ≡ Less → ⊥) → o ≡ Equal
-    by Less g l = absurd (l refl)
-    by Equal g l = refl
-    by Greater g l = absurd (g refl)
-
-lacks_settled : (c : List Item) (owner : List ℕ) (needs : List Need) → IsSettled (lacks_privilege c owner needs)
-lacks_settled c owner needs a b p q = p.2 ∙ ap NoPrivilege (least_settled _ p.0 q.0 p.1 q.1) ∙ sym q.2
 
 lacks_option_settled : (c : List Item) (who : Who) (by : Option Grantor) (roles : List (List ℕ)) → IsSettled (lacks_admin_option c who by roles)
 lacks_option_settled c who by roles a b p q =
