@@ -1,3 +1,5 @@
+pub mod Differing
 pub mod MarkLemmas
+pub mod Pairs
 pub mod Repeats
 pub mod Searches

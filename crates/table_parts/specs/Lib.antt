@@ -1,4 +1,5 @@
 pub mod Classes
 pub mod Columns
+pub mod Forms
 pub mod Marks
 pub mod Parts

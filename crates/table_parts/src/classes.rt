@@ -1,4 +1,4 @@
-//! Classes of types.
+//! Classes of types (comparability and assignability of data types, SQL:2003 part 2, 4.1).
 
 ghost use Rattle.std.specs.Prelude.{◌≡◌};
 ghost use Rattle.table_parts.specs.Classes as spec;

@@ -1,4 +1,4 @@
-//! What is said of columns.
+//! What is said of columns (column definition, SQL:2003 part 2, 11.4).
 
 ghost use Rattle.std.specs.Prelude.{◌≡◌, ◌↔◌, IsTrue, Contains};
 ghost use Rattle.std.specs.List.{Any};

@@ -1,4 +1,4 @@
-//! The parts of CREATE TABLE.
+//! The parts of CREATE TABLE (table definition, SQL:2003 part 2, 11.3).
 
 ghost use Rattle.std.specs.Prelude.{◌≡◌, ◌∷◌, [], ◌++◌, IfOk, OnOk};
 ghost use Rattle.table_parts.specs.Parts as spec;
