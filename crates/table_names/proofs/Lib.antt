@@ -1,4 +1,3 @@
 pub mod NamedLemmas
 pub mod PassedLemmas
 pub mod RepeatLemmas
-pub mod TestLists

@@ -12,15 +12,11 @@ use Rattle.cat_items.specs.declared.edit.Who.{Who}
 use Rattle.cat_items.specs.declared.item.Item.{Item}
 use Rattle.cat_items.specs.Reach.{Has}
 use Rattle.cat_items.specs.Rights.{path_of, IsColumn}
+use Rattle.edit_rules.specs.First.{tests_of}
 use Rattle.edit_rules.specs.Names.{object_in, unknown_base_table, unknown_schema}
 use Rattle.table_parts.specs.declared.parts.Part.{Part}
 use Rattle.table_parts.specs.declared.parts.Part.TheVariants as parts
 use Rattle.table_parts.specs.Parts.{IsColumnNamed}
-
--- the tests of each member, one after the other
-abbrev pub tests_of : {X : Type 0} → (X → List (Refusal → Type 0)) → List X → List (Refusal → Type 0)
-tests_of tests [] = []
-tests_of tests (x ∷ xs) = tests x ++ tests_of tests xs
 
 -- the names that are given to constraints
 abbrev pub given_name : Part → List (List ℕ)

@@ -75,7 +75,8 @@ fn test_taken(
     test_constraints(c, &made.schema, &names)
 }
 
-/// Refuses CREATE TABLE by names that come twice, that don't stand or that are taken, and by its schema's owner.
+/// Refuses CREATE TABLE (SQL:2003 part 2, 11.3) by its names and its schema's owner, in this order: `Repeated` where one comes twice,
+/// `UnknownName` where one doesn't stand, `NotOwner`, and `NameExists` where one is taken. `Memory` is want of memory.
 pub fn test_names(
     alloc: Global,
     c: &Catalogue,

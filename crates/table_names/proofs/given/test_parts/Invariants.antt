@@ -1,5 +1,5 @@
+use Rattle.edit_rules.proofs.TestLists.{PassBelow}
 use Rattle.table_names.specs.Given.{unknown_in_part}
-use Rattle.table_names.proofs.TestLists.{PassBelow}
 use Rattle.table_names.proofs.given.test_parts.Given as goal
 
 abbrev pub invariant-loop-part : goal.invariant-loop-part

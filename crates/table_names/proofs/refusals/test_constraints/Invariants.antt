@@ -1,6 +1,7 @@
+use Rattle.std.proofs.Common.{map, take}
+use Rattle.edit_rules.specs.First.{First, Passes}
 use Rattle.table_names.specs.Refusals.{exists_in}
-use Rattle.table_names.proofs.TestLists.{PassBelow, each}
 use Rattle.table_names.proofs.refusals.test_constraints.Given as goal
 
 abbrev pub invariant-loop-name : goal.invariant-loop-name
-invariant-loop-name l = record { before : PassBelow (each (exists_in l.c.items l.schema)) l.names l.name-index }
+invariant-loop-name l = record { before : Passes (First (map (exists_in l.c.items l.schema) (take l.name-index l.names))) }
