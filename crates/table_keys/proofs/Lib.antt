@@ -1,0 +1,6 @@
+pub mod EmptyLemmas
+pub mod FirstLemmas
+pub mod ForeignLemmas
+pub mod KeyLists
+pub mod MeantKeys
+pub mod OwnKeys

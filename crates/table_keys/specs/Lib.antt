@@ -1,0 +1,4 @@
+pub mod FirstKeys
+pub mod ForeignKeys
+pub mod Keys
+pub mod OneForeign
