@@ -1,0 +1,4 @@
+pub mod ClassLemmas
+pub mod NeedLemmas
+pub mod RuleLemmas
+pub mod Settled

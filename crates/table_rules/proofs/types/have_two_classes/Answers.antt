@@ -1,0 +1,19 @@
+use Rattle.std.proofs.lemmas.Bool.{false≢true}
+use Rattle.table_parts.proofs.Searches.{none_any, none_more}
+use Rattle.table_rules.proofs.ClassLemmas.{DiffersFrom, two_classes_from}
+use Rattle.table_rules.proofs.types.have_two_classes.Goals as goal
+
+pub loop-part-preserved : goal.loop-part-preserved
+loop-part-preserved c = record {
+  none = none_more (DiffersFrom c.args.c.now.items c.args.made.now c.args.parts.now c.args.column.now c.args.target.now c.args.name.now)
+      c.args.parts.now c.loop-part.part-index c.part-item.result c.loop-part.invariant.none
+      (rw c.as_slice-part-items.ensures at c.loop-part-test.true) (rw c.as_slice-part-items.ensures at c.part-item.is) (λ so. false≢true (c.if-differs_from.ensures.1 so));
+}
+
+pub returns : goal.returns
+returns c = (
+  λ e. absurd (false≢true e),
+  λ h. absurd (none_any (DiffersFrom c.args.c.now.items c.args.made.now c.args.parts.now c.args.column.now c.args.target.now c.args.name.now)
+      c.args.parts.now c.loop-part.part-index c.loop-part.invariant.none (rw c.as_slice-part-items.ensures at c.loop-part-test.false)
+      (two_classes_from c.args.c.now.items c.args.made.now c.args.parts.now c.args.column.now c.args.target.now c.args.name.now h)),
+)

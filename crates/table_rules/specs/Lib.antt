@@ -1,0 +1,4 @@
+pub mod Needs
+pub mod References
+pub mod Rules
+pub mod Types
