@@ -1,0 +1,11 @@
+pub mod BuiltColumns
+pub mod ListMembers
+pub mod MadeItems
+pub mod NewNames
+pub mod ProperLists
+pub mod PutLists
+pub mod Settled
+pub mod SoundTables
+pub mod TableResults
+pub mod TestLemmas
+pub mod TestedTables

@@ -1,0 +1,27 @@
+use Rattle.std.proofs.Common.{◌≡◌, ◌≤◌, ◌∙◌, List, ap, length, subst, sym}
+use Rattle.std.proofs.lemmas.List.{take_all}
+use Rattle.cat_items.specs.declared.item.Key.{Key}
+use Rattle.cat_items.specs.declared.item.Item.TheVariants as item
+use Rattle.table_definitions.specs.Lists.{IsKeyAmong}
+use Rattle.table_definitions.proofs.ListMembers.{member_at}
+use Rattle.table_definitions.proofs.PutLists.{Grows, key_is_new, key_put, keys_grow}
+use Rattle.table_definitions.proofs.made.put_keys.Goals as goal
+
+pub put-requires : goal.put-requires
+put-requires c =
+    let here = member_at c.args.keys.now c.loop-key.key-index c.key-item.result (rw c.as_slice-key-items.ensures at c.loop-key-test.true) (rw c.as_slice-key-items.ensures at c.key-item.is) in
+    key_is_new c.loop-key.added.items c.in_ok-share.field-0
+    (λ z h e. c.requires.names z c.key-item.result (key_put c.args.keys.now c.loop-key.key-index c.args.added.now.items c.loop-key.added.items c.loop-key.invariant.members c.requires.new z h) here (e ∙ ap (λ (k : Key). k.name) c.in_ok-share.ensures)
+    ∙ sym c.in_ok-share.ensures)
+
+pub loop-key-preserved : goal.loop-key-preserved
+loop-key-preserved c = record {
+  members = keys_grow c.args.keys.now c.loop-key.key-index c.key-item.result c.args.added.now.items c.loop-key.added.items c.put.new.items.items
+      (rw c.as_slice-key-items.ensures at c.loop-key-test.true) (rw c.as_slice-key-items.ensures at c.key-item.is) c.loop-key.invariant.members
+      (subst (λ (k : Key). Grows c.loop-key.added.items c.put.new.items.items (λ x. x ≡ item.Key k)) c.in_ok-share.ensures c.in_ok-put.ensures.members);
+}
+
+pub returns : goal.returns
+returns c =
+    let all : length c.args.keys.now ≤ c.loop-key.key-index = rw c.as_slice-key-items.ensures at c.loop-key-test.false in
+    subst (λ (l : List Key). Grows c.args.added.now.items c.loop-key.added.items (IsKeyAmong l)) (take_all c.loop-key.key-index c.args.keys.now all) c.loop-key.invariant.members

@@ -1,0 +1,4 @@
+pub mod Built
+pub mod Lists
+pub mod Made
+pub mod Tables
