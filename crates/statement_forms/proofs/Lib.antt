@@ -1,0 +1,5 @@
+pub mod NumberForms
+pub mod TypeForms
+pub mod KeptWords
+pub mod DefaultForms
+pub mod Forms
