@@ -1,28 +1,35 @@
 -- Statements that create: their refusals, and what they make.
 use Rattle.std.specs.Prelude.{◌≡◌, List, []}
 use Rattle.sql_tree.specs.declared.statement.Statement.{Statement}
-use Rattle.sql_tree.specs.declared.statement.Statement.TheVariants.{CreateSchema}
+use Rattle.sql_tree.specs.declared.statement.Statement.TheVariants.{CreateSchema, CreateTable}
 use Rattle.cat_items.specs.declared.edit.Edit.{Edit}
 use Rattle.cat_items.specs.declared.edit.Refusal.{Refusal}
 use Rattle.cat_items.specs.declared.edit.Who.{Who}
 use Rattle.cat_items.specs.declared.item.Item.{Item}
+use Rattle.table_parts.specs.Forms.{HasTableForms}
+use Rattle.table_definitions.specs.Built.{IsBuiltTable}
+use Rattle.table_definitions.specs.Tables.{IsTableCreation, create_table_refusals}
 use Rattle.define_edit.specs.CreatedSchemas.{create_schema_refusals, create_schema_edit}
 
--- the statements whose edits are built so far: CREATE SCHEMA without elements
+-- the statements whose edits are built so far: CREATE SCHEMA without elements, and CREATE TABLE without domains and CHECK
 abbrev pub IsBuiltCreation : Statement → Type 0
 IsBuiltCreation (CreateSchema s) = s.elements ≡ []
+IsBuiltCreation (CreateTable s) = IsBuiltTable s.elements
 IsBuiltCreation statement = ⊥
 
 -- what the grammar gives of the parts of a statement beyond their types
 abbrev pub HasForms : Statement → Type 0
+HasForms (CreateTable s) = HasTableForms s.elements
 HasForms statement = Unit {0}
 
 -- the refusals by the tree, names, owners, taken names, types and privileges, in their order
 abbrev pub creation_refusals : List Item → Who → Statement → List (Refusal → Type 0)
 creation_refusals c who (CreateSchema s) = create_schema_refusals c who s.schema
+creation_refusals c who (CreateTable s) = create_table_refusals c who s
 creation_refusals c who statement = []
 
 -- the edit that the statement makes
 abbrev pub IsCreation : List Item → Who → Statement → Edit → Type 0
 IsCreation c who (CreateSchema s) edit = edit ≡ create_schema_edit who s.schema
+IsCreation c who (CreateTable s) edit = IsTableCreation c who s edit
 IsCreation c who statement edit = ⊥

@@ -1,6 +1,6 @@
 //! Statements that create.
 
-ghost use Rattle.std.specs.Prelude.{IfOk};
+ghost use Rattle.std.specs.Prelude.{◌↔◌, IfOk, IsTrue};
 ghost use Rattle.cat_items.specs.Good.{IsGood};
 ghost use Rattle.edit_rules.specs.First.{IsTested};
 ghost use Rattle.edit_rules.specs.Sound.{IsSound};
@@ -10,8 +10,21 @@ use crate::schemas::create_schema;
 use cat_items::{Catalogue, Edit, EditError, Who};
 use sql_tree::Statement;
 use std::alloc::Global;
+use table_definitions::{create_table, is_built};
 
-/// What CREATE SCHEMA adds to a catalogue, or why it is refused (SQL:2003 part 2, 11.1). `Memory` is want of memory.
+/// Whether a statement creates something, and is of a kind that is built. It takes no memory.
+pub fn is_built_creation(statement: &Statement) -> bool
+    ensures { IsTrue result ↔ IsBuiltCreation statement.now }
+{
+    match statement {
+        Statement::CreateSchema(parts) => parts.elements.is_empty(),
+        Statement::CreateTable(parts) => is_built(&parts.elements),
+        _ => false,
+    }
+}
+
+/// What CREATE SCHEMA or CREATE TABLE adds to a catalogue, or why it is refused (SQL:2003 part 2, 11.1 and 11.3). `Memory` is want of
+/// memory.
 pub fn edit_create(
     alloc: Global,
     c: &Catalogue,
@@ -26,6 +39,7 @@ pub fn edit_create(
 {
     match statement {
         Statement::CreateSchema(parts) => create_schema(alloc, c, who, &parts.schema),
+        Statement::CreateTable(parts) => create_table(alloc, c, who, parts),
         _ => unreachable!(),
     }
 }

@@ -6,4 +6,4 @@ mod schemas;
 #[cfg(test)]
 mod tests;
 
-pub use creations::edit_create;
+pub use creations::{edit_create, is_built_creation};

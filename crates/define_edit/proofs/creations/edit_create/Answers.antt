@@ -4,5 +4,8 @@ use Rattle.edit_rules.specs.First.{IsTested}
 use Rattle.define_edit.specs.Creations.{IsCreation, creation_refusals}
 use Rattle.define_edit.proofs.creations.edit_create.Goals as goal
 
-pub returns-clause-tested : goal.returns-clause-tested
-returns-clause-tested c = subst (λ (s : Statement). IsTested (creation_refusals c.args.c.now.items c.args.who.now s) (IsCreation c.args.c.now.items c.args.who.now s) c.create_schema.result) (sym c.in-CreateSchema.is) c.create_schema.ensures.tested
+pub returns-in-CreateSchema-clause-tested : goal.returns-in-CreateSchema-clause-tested
+returns-in-CreateSchema-clause-tested c = subst (λ (s : Statement). IsTested (creation_refusals c.args.c.now.items c.args.who.now s) (IsCreation c.args.c.now.items c.args.who.now s) c.create_schema.result) (sym c.in-CreateSchema.is) c.create_schema.ensures.tested
+
+pub returns-in-CreateTable-clause-tested : goal.returns-in-CreateTable-clause-tested
+returns-in-CreateTable-clause-tested c = subst (λ (s : Statement). IsTested (creation_refusals c.args.c.now.items c.args.who.now s) (IsCreation c.args.c.now.items c.args.who.now s) c.create_table.result) (sym c.in-CreateTable.is) c.create_table.ensures.tested

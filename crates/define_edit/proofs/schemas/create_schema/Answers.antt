@@ -1,8 +1,3 @@
-use Rattle.std.proofs.Common.{◌≡◌, [], ◌∷◌, ◌∙◌, ap, sym, subst}
-use Rattle.cat_items.specs.declared.item.Schema.{Schema}
-use Rattle.edit_rules.specs.First.{First, Passes}
-use Rattle.edit_rules.specs.Sound.{IsSound}
-use Rattle.define_edit.specs.CreatedSchemas.{adding_schema, schema_of}
 use Rattle.define_edit.proofs.SchemaLemmas.{created_schema, sound_creation}
 use Rattle.define_edit.proofs.schemas.create_schema.Goals as goal
 
