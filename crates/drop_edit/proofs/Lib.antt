@@ -1,3 +1,2 @@
-mod Selections
-mod TableLemmas
 pub mod Settled
+pub mod TableLemmas

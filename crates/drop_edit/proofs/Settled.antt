@@ -1,30 +1,22 @@
 -- A statement that drops has at most one refusal, and makes at most one edit.
-use Rattle.std.proofs.Common.{◌≡◌, List, [], sym, ◌∙◌}
-use Rattle.std.specs.List.{Contains}
+use Rattle.std.proofs.Common.{◌≡◌, List, sym, ◌∙◌}
 use Rattle.sql_tree.specs.declared.column.ObjectName.{ObjectName}
 use Rattle.sql_tree.specs.declared.statement.DropKind.{DropKind}
 use Rattle.sql_tree.specs.declared.statement.DropKind.TheVariants.{Table}
 use Rattle.sql_tree.specs.declared.statement.Statement.{Statement}
-use Rattle.sql_tree.specs.declared.statement.Statement.TheVariants.{DropObject}
+use Rattle.sql_tree.specs.declared.statement.Statement.TheVariants.{DropObject, DropRole}
 use Rattle.cat_items.specs.declared.edit.Edit.{Edit}
-use Rattle.cat_items.specs.declared.edit.Refusal.{Refusal}
 use Rattle.cat_items.specs.declared.edit.Who.{Who}
 use Rattle.cat_items.specs.declared.item.Item.{Item}
-use Rattle.cat_items.proofs.CatalogueLemmas.{same_in_order}
+use Rattle.edit_lists.proofs.SettledEdits.{taking_settled}
 use Rattle.edit_rules.specs.Names.{object_in}
-use Rattle.edit_rules.proofs.FirstLaws.{IsSettled, AreSettled}
-use Rattle.drop_edit.specs.DroppedTables.{BelongsTo, IsSelection}
+use Rattle.edit_rules.proofs.FirstLaws.{AreSettled}
+use Rattle.role_edit.proofs.Settled as roles
+use Rattle.drop_edit.specs.DroppedTables.{BelongsTo}
 use Rattle.drop_edit.specs.Drops.{IsDrop, IsDropOfKind, drop_refusals, refusals_of_kind}
 
-selection_settled : (c : List Item) (P : Item → Type 0) (a b : List Item) → IsSelection c P a → IsSelection c P b → a ≡ b
-selection_settled c P a b p q = same_in_order a b p.order q.order (λ x. (λ h. (q.members x).1 ((p.members x).0 h), λ h. (p.members x).1 ((q.members x).0 h)))
-
 of_kind_settled : (c : List Item) (who : Who) (kind : DropKind) (name : ObjectName) (a b : Edit) → IsDropOfKind c who kind name a → IsDropOfKind c who kind name b → a ≡ b
-of_kind_settled c who Table name a b p q =
-    let target : a.target ≡ b.target = selection_settled c (BelongsTo (object_in who.schema name)) a.target b.target p.target q.target in
-    let changed : a.changed ≡ b.changed = p.changed ∙ sym q.changed in
-    let added : a.added ≡ b.added = p.added ∙ sym q.added in
-    λ i. record { target = target i; changed = changed i; added = added i }
+of_kind_settled c who Table name a b p q = taking_settled c (BelongsTo (object_in who.schema name)) a b p q
 of_kind_settled c who kind name a b p q = absurd p
 
 refusals_of_kind_settled : (c : List Item) (who : Who) (kind : DropKind) (name : ObjectName) → AreSettled (refusals_of_kind c who kind name)
@@ -33,8 +25,10 @@ refusals_of_kind_settled c who kind name = tt
 
 pub drop_settled : (c : List Item) (who : Who) (s : Statement) (a b : Edit) → IsDrop c who s a → IsDrop c who s b → a ≡ b
 drop_settled c who (DropObject d) a b p q = of_kind_settled c who d.kind d.object a b p q
+drop_settled c who (DropRole role) a b p q = roles.drop_settled c role a b p q
 drop_settled c who s a b p q = absurd p
 
 pub drop_refusals_settled : (c : List Item) (who : Who) (s : Statement) → AreSettled (drop_refusals c who s)
 drop_refusals_settled c who (DropObject d) = refusals_of_kind_settled c who d.kind d.object
+drop_refusals_settled c who (DropRole role) = roles.drop_refusals_settled c who role
 drop_refusals_settled c who s = tt

@@ -30,12 +30,13 @@ use Rattle.edit_laws.specs.Kinds.{IsKept, taking}
 use Rattle.edit_laws.proofs.Fits.{edited_of_taking, fit_of_taking, held_gone, grantable_gone}
 use Rattle.edit_laws.proofs.GoodCatalogues.{good_order}
 use Rattle.edit_laws.proofs.Shapes.{shape_of_taking}
+use Rattle.edit_lists.specs.Chosen.{AreChosen}
 use Rattle.edit_rules.specs.First.{First, IsTested, Passes}
 use Rattle.edit_rules.specs.Names.{object_in, unknown_base_table}
 use Rattle.edit_rules.specs.Owners.{not_owner}
 use Rattle.edit_rules.specs.Sound.{IsSound}
 use Rattle.edit_rules.proofs.FirstLaws.{exit_of_others, passes_more, passes_that}
-use Rattle.drop_edit.specs.DroppedTables.{BelongsTo, IsOnTable, IsSelection, IsTableAction, IsTableDrop, drop_table_refusals, refusals_by_table}
+use Rattle.drop_edit.specs.DroppedTables.{BelongsTo, IsOnTable, IsTableAction, IsTableDrop, drop_table_refusals, refusals_by_table}
 
 -- the object of such an action is a table
 table_by : (by : Action) (path : List (List ℕ)) (y : Item) → IsTableAction by → IsObject by path y → IsTable path y
@@ -49,7 +50,7 @@ table_by by path y h is = absurd h
 taken_alone : (edit : Edit) → edit.changed ≡ [] → edit.added ≡ [] → edit ≡ taking edit.target
 taken_alone edit changed added = λ i. record { target = edit.target; changed = changed i; added = added i }
 
-module _ (c : List Item) (table : Object) (target : List Item) (good : IsGood c) (selected : IsSelection c (BelongsTo table) target) (stands : ¬ (¬ (Has c (IsBaseTable table)))) where
+module _ (c : List Item) (table : Object) (target : List Item) (good : IsGood c) (selected : AreChosen c (BelongsTo table) target) (stands : ¬ (¬ (Has c (IsBaseTable table)))) where
   -- no view has the table's name
   no_view : (v : View) → Contains c (item.View v) → v.view ≡ table → ⊥
   no_view v m e = stands (λ h. by h.0 h.1 h.2)

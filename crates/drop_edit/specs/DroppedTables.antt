@@ -1,6 +1,5 @@
 -- DROP TABLE: its refusals, and what it takes (drop table statement, SQL:2003 part 2, 11.21).
-use Rattle.std.specs.Prelude.{◌≡◌, ◌↔◌, ℕ, List, [], ◌∷◌}
-use Rattle.std.specs.List.{Contains}
+use Rattle.std.specs.Prelude.{◌≡◌, ℕ, List, [], ◌∷◌}
 use Rattle.sql_tree.specs.declared.column.ObjectName.{ObjectName}
 use Rattle.sql_tree.specs.declared.object.Object.{Object}
 use Rattle.sql_tree.specs.declared.rights.Action.{Action}
@@ -11,8 +10,8 @@ use Rattle.cat_items.specs.declared.edit.Who.{Who}
 use Rattle.cat_items.specs.declared.item.Item.{Item}
 use Rattle.cat_items.specs.declared.item.Item.TheVariants as item
 use Rattle.cat_items.specs.declared.need.Need.{Need}
-use Rattle.cat_items.specs.Catalogues.{IsInOrder}
 use Rattle.cat_items.specs.Rights.{path_of}
+use Rattle.edit_lists.specs.Chosen.{IsTaking}
 use Rattle.edit_rules.specs.Names.{object_in, unknown_base_table}
 use Rattle.edit_rules.specs.Owners.{not_owner}
 
@@ -40,16 +39,9 @@ BelongsTo table (item.Held r) = IsOnTable (path_of table) r.need
 BelongsTo table (item.Grantable r) = IsOnTable (path_of table) r.need
 BelongsTo table x = ⊥
 
--- those items of the list that are so, in order
-pub record IsSelection (c : List Item) (P : Item → Type 0) (part : List Item) : Type 0 where
-  pub order : IsInOrder part
-  pub members : (x : Item) → Contains part x ↔ (Contains c x × P x)
-
--- all that belongs to the table is destroyed, and nothing else is done
-pub record IsTableDrop (c : List Item) (table : Object) (edit : Edit) : Type 0 where
-  pub target : IsSelection c (BelongsTo table) edit.target
-  pub changed : edit.changed ≡ []
-  pub added : edit.added ≡ []
+-- all that belongs to the table is taken, and nothing else is done
+abbrev pub IsTableDrop : List Item → Object → Edit → Type 0
+IsTableDrop c table edit = IsTaking c (BelongsTo table) edit
 
 -- no base table of the name stands; the session doesn't act for the owner of its schema
 abbrev pub refusals_by_table : List Item → Who → Object → List (Refusal → Type 0)

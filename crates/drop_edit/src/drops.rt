@@ -1,4 +1,4 @@
-//! Statements that drop an object.
+//! Statements that drop an object or a role.
 
 ghost use Rattle.std.specs.Prelude.{IfOk};
 ghost use Rattle.cat_items.specs.Good.{IsGood};
@@ -8,6 +8,7 @@ ghost use Rattle.drop_edit.specs.Drops.{IsBuiltDrop, IsBuiltKind, IsDrop, IsDrop
 
 use crate::tables::drop_table;
 use cat_items::{Catalogue, Edit, EditError, Who};
+use role_edit::drop_role;
 use sql_tree::{DropKind, ObjectName, Statement};
 use std::alloc::Global;
 
@@ -30,8 +31,9 @@ fn drop_of_kind(
     }
 }
 
-/// What DROP TABLE takes out of a catalogue by itself, or why it is refused (SQL:2003 part 2, 11.21). `Memory` is
-/// want of memory. Whether the behaviour RESTRICT refuses it is not decided here.
+/// What DROP TABLE and DROP ROLE take out of a catalogue by themselves, or why they are refused (SQL:2003 part 2, 11.21 and
+/// 12.6): the table or role is unknown; the session doesn't act for the owner of the table's schema, or has no admin option
+/// of the role. `Memory` is want of memory. Whether the behaviour RESTRICT refuses it is not decided here.
 pub fn edit_drop(
     alloc: Global,
     c: &Catalogue,
@@ -45,6 +47,7 @@ pub fn edit_drop(
 {
     match statement {
         Statement::DropObject(parts) => drop_of_kind(alloc, c, who, parts.kind, &parts.object),
+        Statement::DropRole(role) => drop_role(alloc, c, who, role),
         _ => unreachable!(),
     }
 }

@@ -1,4 +1,4 @@
-//! Statements that drop an object of a schema: DROP TABLE, as the edit that it makes of a catalogue.
+//! Statements that drop: DROP TABLE and DROP ROLE, as the edits that they make of a catalogue.
 #![tactic(auto)]
 
 mod drops;

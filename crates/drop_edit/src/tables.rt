@@ -3,12 +3,14 @@
 ghost use Rattle.std.specs.Prelude.{◌≡◌, ◌↔◌, IfOk, IsTrue};
 ghost use Rattle.cat_items.specs.Good.{IsGood};
 ghost use Rattle.cat_items.specs.Rights as rights;
+ghost use Rattle.edit_lists.specs.Chosen.{AreChosen};
 ghost use Rattle.edit_rules.specs.First.{IsTested};
 ghost use Rattle.edit_rules.specs.Names as names;
 ghost use Rattle.edit_rules.specs.Sound.{IsSound};
 ghost use Rattle.drop_edit.specs.DroppedTables as spec;
 
 use cat_items::{Catalogue, Edit, EditError, Item, Need, Who};
+use edit_lists::{Chooses, chosen};
 use edit_rules::{object_in, path_of, test_base_table, test_owner};
 use sql_tree::{Action, Items, Object, ObjectName, Path};
 use std::alloc::{AllocError, Global};
@@ -31,35 +33,39 @@ fn is_on_table(need: &Need, table: &Path) -> bool
     is_table_action(need.action) && need.on.same(table)
 }
 
-/// Whether an item belongs to a table; `path` is that of the table.
-fn belongs(x: &Item, table: &Object, path: &Path) -> bool
-    requires { path.now ≡ rights.path_of table.now }
-    ensures { IsTrue result ↔ spec.BelongsTo table.now x.now }
-{
-    match x {
-        Item::Table(own) => own.get().same(table),
-        Item::Column(column) => column.get().table.same(table),
-        Item::Key(key) => key.get().table.same(table),
-        Item::Foreign(foreign) => foreign.get().table.same(table),
-        Item::Check(check) => check.get().table.same(table),
-        Item::Held(right) => is_on_table(&right.get().need, path),
-        Item::Grantable(right) => is_on_table(&right.get().need, path),
-        _ => false,
+/// A base table, and its path.
+#[derive(Drop)]
+struct Dropped<'a> {
+    table: &'a Object,
+    path: &'a Path,
+    ghost one_name: { path.now ≡ rights.path_of table.now },
+}
+
+impl<'a> Chooses for Dropped<'a> {
+    ghost use Rattle.drop_edit.specs.DroppedTables.{BelongsTo};
+
+    ghost fits = { λ t x. BelongsTo t.table.now x };
+
+    fn chooses(&self, x: &Item) -> bool {
+        match x {
+            Item::Table(own) => own.get().same(self.table),
+            Item::Column(column) => column.get().table.same(self.table),
+            Item::Key(key) => key.get().table.same(self.table),
+            Item::Foreign(foreign) => foreign.get().table.same(self.table),
+            Item::Check(check) => check.get().table.same(self.table),
+            Item::Held(right) | Item::Grantable(right) => is_on_table(&right.get().need, self.path),
+            _ => false,
+        }
     }
 }
 
 /// All that belongs to a table. It looks at each item of the catalogue.
 pub fn belongings(alloc: Global, c: &Catalogue, table: &Object) -> Result<Items<Item>, AllocError>
-    ensures { IfOk result (λ found. spec.IsSelection c.now.items (spec.BelongsTo table.now) found) }
+    ensures { IfOk result (λ found. AreChosen c.now.items (spec.BelongsTo table.now) found) }
 {
     let path = path_of(table)?;
-    let mut found = Items::new(alloc);
-    for x in c.items() {
-        if belongs(x, table, &path) {
-            found.push(x.copy()?)?;
-        }
-    }
-    Ok(found)
+    let dropped = Dropped { table, path: &path };
+    chosen(alloc, c, &dropped)
 }
 
 /// The edit of DROP TABLE.
