@@ -4,6 +4,6 @@ pub mod Lists
 pub mod NamedLemmas
 pub mod RevokeLemmas
 pub mod RightLemmas
+pub mod Settled
 pub mod Soundness
 pub mod StatementLemmas
-pub mod TestLists

@@ -1,25 +1,17 @@
 -- Lists that loops go through.
-use Rattle.std.proofs.Common.{◌==◌, Bool, true, false, not, Option, Some, None, ◌≡◌, ◌⊎◌, ◌↔◌, inl, inr, ℕ, ◌+◌, ◌<◌, ◌≤◌, List, [], ◌∷◌, ◌++◌, length, take, get_or, map, append_assoc, sym, ap, subst, refl, ◌∙◌}
+use Rattle.std.proofs.Common.{◌==◌, Bool, true, false, not, Option, Some, None, ◌≡◌, ◌⊎◌, ◌↔◌, inl, inr, ℕ, ◌+◌, ◌<◌, List, [], ◌∷◌, ◌++◌, length, take, get_or, map, append_assoc, sym, ap, subst, refl, ◌∙◌}
 use Rattle.std.specs.List.{Contains, flat_map}
 use Rattle.std.specs.Option.{is_some}
 use Rattle.std.specs.Result.{OnOk}
 use Rattle.std.specs.declared.result.Result.{Result}
 use Rattle.std.specs.declared.result.Result.TheVariants.{Ok, Err}
-use Rattle.std.proofs.lemmas.List.{take_more, take_all, append-nil, map-append}
+use Rattle.std.proofs.lemmas.List.{append-nil, map-append}
 use Rattle.std.proofs.lemmas.List.Concat.{flat_map-append}
 use Rattle.std.proofs.lemmas.List.Elements.{Contains-append_left, Contains-append_right, Contains-append_cases, Contains-push, Contains-push_cases}
 use Rattle.finite_chains.proofs.Members.{Contains-nil, Contains-head, Contains-tail, Contains-cases}
+use Rattle.edit_rules.proofs.Lists.{take_next}
 
 module _ {X : Type 0} (xs shown : List X) (i : ℕ) (same : shown ≡ xs) where
-  -- one element more
-  pub take_next : (x : X) → i < length shown → x ≡ get_or shown i x → take (i + 1) xs ≡ take i xs ++ x ∷ []
-  take_next x low is =
-      subst (λ l. take (i + 1) l ≡ take i l ++ x ∷ []) same (take_more shown i x low ∙ ap (λ z. take i shown ++ z ∷ []) (sym is))
-
-  -- all elements
-  pub take_whole : length shown ≤ i → take i xs ≡ xs
-  take_whole done = subst (λ l. take i l ≡ l) same (take_all i shown done)
-
   -- the element is in the list
   pub contains_at : (x : X) → i < length shown → x ≡ get_or shown i x → Contains xs x
   contains_at x low is = subst (λ l. Contains l x) same (i, low, sym is)
@@ -27,11 +19,11 @@ module _ {X : Type 0} (xs shown : List X) (i : ℕ) (same : shown ≡ xs) where
   -- one element more of what is made of each
   pub map_next : {Y : Type 0} → (f : X → Y) (base : List Y) (x : X) → i < length shown → x ≡ get_or shown i x → (base ++ map f (take i xs)) ++ f x ∷ [] ≡ base ++ map f (take (i + 1) xs)
   map_next f base x low is =
-      append_assoc base (map f (take i xs)) (f x ∷ []) ∙ ap (λ l. base ++ l) (sym (map-append f (take i xs) (x ∷ []))) ∙ ap (λ l. base ++ map f l) (sym (take_next x low is))
+      append_assoc base (map f (take i xs)) (f x ∷ []) ∙ ap (λ l. base ++ l) (sym (map-append f (take i xs) (x ∷ []))) ∙ ap (λ l. base ++ map f l) (sym (take_next xs shown i same x low is))
 
   pub flat_next : {Y : Type 0} → (f : X → List Y) (x : X) → i < length shown → x ≡ get_or shown i x → flat_map f (take i xs) ++ f x ≡ flat_map f (take (i + 1) xs)
   flat_next f x low is =
-      ap (λ l. flat_map f (take i xs) ++ l) (sym (append-nil (f x))) ∙ sym (flat_map-append f (take i xs) (x ∷ [])) ∙ ap (λ l. flat_map f l) (sym (take_next x low is))
+      ap (λ l. flat_map f (take i xs) ++ l) (sym (append-nil (f x))) ∙ sym (flat_map-append f (take i xs) (x ∷ [])) ∙ ap (λ l. flat_map f l) (sym (take_next xs shown i same x low is))
 
 -- what is made of the elements
 pub contains_map : {X Y : Type 0} (f : X → Y) (xs : List X) (y : Y) → Contains (map f xs) y ↔ ((x : X) × Contains xs x × (f x ≡ y))

@@ -22,8 +22,8 @@ use Rattle.edit_laws.specs.Kinds.{adding, taking, IsBySystem}
 use Rattle.edit_laws.proofs.Fits.{edited_of_taking, fit_of_adding, fit_of_taking, gone_without_system}
 use Rattle.edit_laws.proofs.GoodCatalogues.{good_order}
 use Rattle.edit_laws.proofs.Shapes.{keeps_without_columns, plain_derived, right_is_no_column, shape_of_plain, shape_of_taking}
-use Rattle.grant_edit.specs.Grants.{Adds}
-use Rattle.grant_edit.specs.Revokes.{IsIdentified, Takes}
+use Rattle.edit_lists.specs.Chosen.{IsAdding, IsTaking}
+use Rattle.grant_edit.specs.Revokes.{IsIdentified}
 use Rattle.grant_edit.proofs.RightLemmas.{same_right}
 
 right_has_no_shape : (x : Item) → IsRight x → HasNoShape x
@@ -37,10 +37,10 @@ right_is_new c (item.Grantable r) h = tt
 right_is_new c _ h = absurd h
 
 -- rights that are added
-pub adding_is_sound : (c : List Item) (P : Item → Type 0) (edit : Edit) → IsGood c → Adds P edit → ((x : Item) → P x → IsRight x) → IsSound c edit
+pub adding_is_sound : (c : List Item) (P : Item → Type 0) (edit : Edit) → IsGood c → IsAdding P edit → ((x : Item) → P x → IsRight x) → IsSound c edit
 adding_is_sound c P edit good adds right =
-    let rights : (x : Item) → Contains edit.added x → IsRight x = λ x h. right x ((adds.members x).0 h) in
-    let fit = fit_of_adding c edit.added (good_order c good) adds.order
+    let rights : (x : Item) → Contains edit.added x → IsRight x = λ x h. right x ((adds.added.members x).0 h) in
+    let fit = fit_of_adding c edit.added (good_order c good) adds.added.order
     (λ x y h k e. sym (same_right x y (rights x h) (flip x y e)))
     (λ x h. right_is_new c x (rights x h))
     (λ x h. plain_derived x (right_has_no_shape x (rights x h))) in
@@ -66,18 +66,18 @@ identified_by object named grantor whom alone (item.Grantable r) h e = let by = 
 identified_by object named grantor whom alone _ h e = h
 
 -- rights by a named grantor that are destroyed
-pub taking_is_sound : (c : List Item) (object : Object) (named : List Need) (grantor : List ℕ) (whom : List Auth) (alone : Bool) (edit : Edit) → IsGood c → Takes c (IsIdentified object named grantor whom alone) edit → IsSound c edit
+pub taking_is_sound : (c : List Item) (object : Object) (named : List Need) (grantor : List ℕ) (whom : List Auth) (alone : Bool) (edit : Edit) → IsGood c → IsTaking c (IsIdentified object named grantor whom alone) edit → IsSound c edit
 taking_is_sound c object named grantor whom alone edit good takes =
-    let within : IsWithin edit.target c = λ x h. ((takes.members x).0 h).0 in
+    let within : IsWithin edit.target c = λ x h. ((takes.target.members x).0 h).0 in
     let edited = edited_of_taking c edit.target (good_order c good) within in
-    let fit = fit_of_taking c edit.target edited.0 takes.order within edited.1
-    (λ x h. gone_without_system edited.0 x (identified_by object named grantor whom alone x ((takes.members x).0 h).1)) in
+    let fit = fit_of_taking c edit.target edited.0 takes.target.order within edited.1
+    (λ x h. gone_without_system edited.0 x (identified_by object named grantor whom alone x ((takes.target.members x).0 h).1)) in
     let keeps = keeps_without_columns c (taking edit.target) columns in
     let shape = shape_of_taking c edit.target edited.0 good.shape edited.1 keeps in
     subst (IsSound c) whole (record { edited = edited.0; fit = fit; shape = shape })
   where
     columns : (x : Item) → Contains edit.target x ⊎ Contains [] x → (t : Object) → ¬ (IsColumnOf t x)
-    columns x (inl h) t = right_is_no_column x (identified_right object named grantor whom alone x ((takes.members x).0 h).1) t
+    columns x (inl h) t = right_is_no_column x (identified_right object named grantor whom alone x ((takes.target.members x).0 h).1) t
     columns x (inr none) t = absurd (Contains-nil x none)
 
     whole : taking edit.target ≡ edit

@@ -1,12 +1,10 @@
 -- Statements as wholes: their refusals in order, and what comes of them.
-use Rattle.std.proofs.Common.{◌≡◌, ◌⊎◌, ◌↔◌, inl, inr, ℕ, Bool, true, false, not, List, [], ◌∷◌, Option, Some, None, IsTrue, sym, subst, refl, ◌∙◌}
+use Rattle.std.proofs.Common.{◌≡◌, ◌⊎◌, ◌↔◌, inl, inr, ℕ, Bool, true, false, not, List, [], ◌∷◌, IsTrue, sym, subst, refl}
 use Rattle.std.specs.List.{Contains}
 use Rattle.std.specs.Result.{IsErrAnd}
 use Rattle.std.specs.declared.result.Result.{Result}
 use Rattle.std.specs.declared.result.Result.TheVariants.{Ok, Err}
 use Rattle.sql_tree.specs.declared.object.Object.{Object}
-use Rattle.sql_tree.specs.declared.rights.Grantor.{Grantor}
-use Rattle.sql_tree.specs.declared.rights.Grantor.TheVariants.{CurrentUser, CurrentRole}
 use Rattle.sql_tree.specs.declared.rights.Privileges.{Privileges}
 use Rattle.sql_tree.specs.declared.rights.Privileges.TheVariants.{All, Listed}
 use Rattle.sql_tree.specs.declared.statement.GrantPrivileges.{GrantPrivileges}
@@ -23,23 +21,19 @@ use Rattle.cat_items.specs.Catalogues.{IsInOrder}
 use Rattle.cat_items.specs.Good.{IsGood}
 use Rattle.edit_rules.specs.First.{First, IsTested, Passes}
 use Rattle.edit_rules.specs.Grantors.{IsGrantor, no_current_role}
+use Rattle.edit_lists.specs.Chosen.{IsAdding}
 use Rattle.edit_rules.specs.Sound.{IsSound}
 use Rattle.edit_rules.proofs.FirstLaws.{passes_none, passes_more, passes_that, passes_both, error_of_first, error_of_others, tested_by_others}
+use Rattle.edit_rules.proofs.Settled.{grantor_settled}
 use Rattle.grant_edit.specs.declared.grants.Granted.{Granted}
 use Rattle.grant_edit.specs.declared.grants.Granting.{Granting}
-use Rattle.grant_edit.specs.Grants.{Adds, AllGranted, CanGrant, GrantsSome, IsGrant, IsGranted, IsGrantedBy, IsPartial, grants_nothing}
+use Rattle.grant_edit.specs.Grants.{AllGranted, CanGrant, GrantsSome, IsGrant, IsGranted, IsGrantedBy, IsPartial, grants_nothing}
 use Rattle.grant_edit.specs.Named.{is_partial, named_grantees, named_privileges}
 use Rattle.grant_edit.specs.Revokes.{IsIdentified}
 use Rattle.grant_edit.specs.Statements.{Grants, GrantsBy, Revokes, RevokesBy, granting_refusals, no_grant, privileges_named, revoking_refusals, target_object}
 use Rattle.grant_edit.specs.Targets.{unknown_names}
 use Rattle.grant_edit.proofs.RightLemmas.{grant_is_right, of_same}
 use Rattle.grant_edit.proofs.Soundness.{adding_is_sound, taking_is_sound}
-
--- a statement has one grantor
-one_grantor : (c : List Item) (who : Who) (by : Option Grantor) (a b : List ℕ) → IsGrantor c who by a → IsGrantor c who by b → a ≡ b
-one_grantor c who None a b p q = p ∙ sym q
-one_grantor c who (Some CurrentUser) a b p q = p ∙ sym q
-one_grantor c who (Some CurrentRole) a b p q = let set = p.0 in let same = q.0 in cc
 
 -- ---- GRANT
 
@@ -75,7 +69,7 @@ module _ (c : List Item) (who : Who) (parts : GrantPrivileges) (object : Object)
       passes : Passes (First (grants_nothing c grantor (privileges_named who parts.privileges parts.target) ∷ [])) → Passes (no_grant c who parts)
       passes all refusal r =
           passes_that (grants_nothing c grantor (privileges_named who parts.privileges parts.target)) all refusal
-          (subst (λ g. grants_nothing c g (privileges_named who parts.privileges parts.target) refusal) (one_grantor c who parts.grantor r.0 grantor r.1 by.1) r.2)
+          (subst (λ g. grants_nothing c g (privileges_named who parts.privileges parts.target) refusal) (grantor_settled c who parts.grantor r.0 grantor r.1 by.1) r.2)
 
       at : (outcome : Result Granting EditError) → IsTested (grants_nothing c grantor (privileges_named who parts.privileges parts.target) ∷ []) (GrantsBy c grantor (target_object who parts.target) parts) outcome → IsTested (no_grant c who parts ∷ []) (Grants c who parts) outcome
       at (Ok granting) r = (passes_more (no_grant c who parts) [] (passes r.0) passes_none, (grantor, by.1, r.1))
@@ -122,12 +116,14 @@ partial_is c grantor object (Listed listed) named granted by = some_not c granto
 
 -- ---- the edit
 
-pub adds_those : (P : Item → Type 0) (edit : Edit) (added : List Item) → edit.target ≡ [] → edit.changed ≡ [] → edit.added ≡ added → IsInOrder added → ((x : Item) → Contains added x ↔ P x) → Adds P edit
+pub adds_those : (P : Item → Type 0) (edit : Edit) (added : List Item) → edit.target ≡ [] → edit.changed ≡ [] → edit.added ≡ added → IsInOrder added → ((x : Item) → Contains added x ↔ P x) → IsAdding P edit
 adds_those P edit added target changed is order members = record {
   target = target;
   changed = changed;
-  order = subst IsInOrder (sym is) order;
-  members = λ x. subst (λ l. Contains l x ↔ P x) (sym is) (members x);
+  added = record {
+    order = subst IsInOrder (sym is) order;
+    members = λ x. subst (λ l. Contains l x ↔ P x) (sym is) (members x);
+  };
 }
 
 -- ---- exits
@@ -172,8 +168,10 @@ pub revokes_by : (c : List Item) (grantor : List ℕ) (object : Object) (parts :
     → edit.changed ≡ [] → edit.added ≡ []
     → RevokesBy c grantor object parts edit
 revokes_by c grantor object parts named edit is order members changed added = record {
-  order = order;
-  members = λ x. subst (λ l. Contains edit.target x ↔ (Contains c x × IsIdentified object l grantor (named_grantees parts.grantees) parts.option_alone x)) is (members x);
+  target = record {
+    order = order;
+    members = λ x. subst (λ l. Contains edit.target x ↔ (Contains c x × IsIdentified object l grantor (named_grantees parts.grantees) parts.option_alone x)) is (members x);
+  };
   changed = changed;
   added = added;
 }

@@ -6,7 +6,6 @@ use Rattle.sql_tree.specs.declared.rights.Action.{Action}
 use Rattle.sql_tree.specs.declared.rights.Action.TheVariants as actions
 use Rattle.sql_tree.specs.declared.rights.Privileges.{Privileges}
 use Rattle.sql_tree.specs.declared.rights.Privileges.TheVariants.{All, Listed}
-use Rattle.cat_items.specs.declared.edit.Edit.{Edit}
 use Rattle.cat_items.specs.declared.edit.Refusal.{Refusal}
 use Rattle.cat_items.specs.declared.edit.Refusal.TheVariants.{NoPrivilege}
 use Rattle.cat_items.specs.declared.item.Item.{Item}
@@ -15,7 +14,6 @@ use Rattle.cat_items.specs.declared.item.Right.{Right}
 use Rattle.cat_items.specs.declared.need.Auth.{Auth}
 use Rattle.cat_items.specs.declared.need.Auth.TheVariants.{Named}
 use Rattle.cat_items.specs.declared.need.Need.{Need}
-use Rattle.cat_items.specs.Catalogues.{IsInOrder}
 use Rattle.cat_items.specs.Needs.{object_need, column_need}
 use Rattle.cat_items.specs.Rights.{Met}
 use Rattle.edit_rules.specs.Privileges.{IsLeastNeed}
@@ -51,13 +49,6 @@ abbrev pub IsGrant : (Need → Type 0) → List ℕ → List Auth → Bool → I
 IsGrant granted grantor grantees option (item.Held r) = IsGrantTo granted grantor grantees r
 IsGrant granted grantor grantees option (item.Grantable r) = IsTrue option × IsGrantTo granted grantor grantees r
 IsGrant granted grantor grantees option x = ⊥
-
--- the edit adds these items alone
-pub record Adds (P : Item → Type 0) (edit : Edit) : Type 0 where
-  pub target : edit.target ≡ []
-  pub changed : edit.changed ≡ []
-  pub order : IsInOrder edit.added
-  pub members : (x : Item) → Contains edit.added x ↔ P x
 
 -- nothing that is named can be granted; the least of it is told
 abbrev pub grants_nothing : List Item → List ℕ → List Need → Refusal → Type 0

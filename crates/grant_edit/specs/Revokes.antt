@@ -1,15 +1,13 @@
 -- REVOKE of privileges: which rights it identifies (revoke statement, SQL:2003 part 2, 12.7).
-use Rattle.std.specs.Prelude.{◌≡◌, ◌⊎◌, ◌↔◌, ℕ, Bool, false, List, [], Option, Some, None}
+use Rattle.std.specs.Prelude.{◌≡◌, ◌⊎◌, ℕ, Bool, false, List, Option, Some, None}
 use Rattle.std.specs.List.{Contains}
 use Rattle.sql_tree.specs.declared.object.Object.{Object}
-use Rattle.cat_items.specs.declared.edit.Edit.{Edit}
 use Rattle.cat_items.specs.declared.item.Item.{Item}
 use Rattle.cat_items.specs.declared.item.Item.TheVariants as item
 use Rattle.cat_items.specs.declared.item.Right.{Right}
 use Rattle.cat_items.specs.declared.need.Auth.{Auth}
 use Rattle.cat_items.specs.declared.need.Auth.TheVariants.{Named}
 use Rattle.cat_items.specs.declared.need.Need.{Need}
-use Rattle.cat_items.specs.Catalogues.{IsInOrder}
 use Rattle.cat_items.specs.Needs.{object_need}
 use Rattle.cat_items.specs.Rights.{path_of}
 
@@ -35,10 +33,3 @@ abbrev pub IsIdentified : Object → List Need → List ℕ → List Auth → Bo
 IsIdentified object named grantor grantees option_alone (item.Held r) = (option_alone ≡ false) × IsRevokedRight object named grantor grantees r
 IsIdentified object named grantor grantees option_alone (item.Grantable r) = IsRevokedRight object named grantor grantees r
 IsIdentified object named grantor grantees option_alone x = ⊥
-
--- the edit takes these items of the catalogue alone
-pub record Takes (c : List Item) (P : Item → Type 0) (edit : Edit) : Type 0 where
-  pub order : IsInOrder edit.target
-  pub members : (x : Item) → Contains edit.target x ↔ (Contains c x × P x)
-  pub changed : edit.changed ≡ []
-  pub added : edit.added ≡ []

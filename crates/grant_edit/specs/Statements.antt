@@ -15,9 +15,10 @@ use Rattle.cat_items.specs.declared.need.Need.{Need}
 use Rattle.edit_rules.specs.Grantors.{IsGrantor, no_current_role}
 use Rattle.edit_rules.specs.Names.{object_in}
 use Rattle.grant_edit.specs.declared.grants.Granting.{Granting}
-use Rattle.grant_edit.specs.Grants.{Adds, IsGrant, IsGranted, IsPartial, grants_nothing}
+use Rattle.edit_lists.specs.Chosen.{IsAdding, IsTaking}
+use Rattle.grant_edit.specs.Grants.{IsGrant, IsGranted, IsPartial, grants_nothing}
 use Rattle.grant_edit.specs.Named.{named_grantees, named_privileges}
-use Rattle.grant_edit.specs.Revokes.{IsIdentified, Takes}
+use Rattle.grant_edit.specs.Revokes.{IsIdentified}
 use Rattle.grant_edit.specs.Targets.{unknown_names}
 
 -- the object that a target names, in the session's schema where it names none
@@ -37,14 +38,22 @@ abbrev pub granting_refusals : List Item → Who → GrantPrivileges → List (R
 granting_refusals c who parts = unknown_names c (target_object who parts.target) parts.privileges parts.target.kind parts.grantees
     ++ no_current_role c who parts.grantor ∷ no_grant c who parts ∷ []
 
--- by this grantor each grantee is granted what is named on the object and can be granted, and the warning is due where that isn't all
+-- by this grantor each grantee is granted what is named on the object and can be granted
+abbrev pub GrantsEditBy : List Item → List ℕ → Object → GrantPrivileges → Edit → Type 0
+GrantsEditBy c grantor object parts edit = IsAdding (IsGrant (IsGranted c grantor object (named_privileges parts.target.kind object parts.privileges)) grantor (named_grantees parts.grantees) parts.grant_option) edit
+
+-- the same, and the warning is due where that isn't all
 pub record GrantsBy (c : List Item) (grantor : List ℕ) (object : Object) (parts : GrantPrivileges) (granting : Granting) : Type 0 where
-  pub edit : Adds (IsGrant (IsGranted c grantor object (named_privileges parts.target.kind object parts.privileges)) grantor (named_grantees parts.grantees) parts.grant_option) granting.edit
+  pub edit : GrantsEditBy c grantor object parts granting.edit
   pub partial : IsTrue granting.partial ↔ IsPartial c grantor parts.privileges (named_privileges parts.target.kind object parts.privileges)
 
 -- the same by the statement's grantor
 abbrev pub Grants : List Item → Who → GrantPrivileges → Granting → Type 0
 Grants c who parts granting = (grantor : List ℕ) × IsGrantor c who parts.grantor grantor × GrantsBy c grantor (target_object who parts.target) parts granting
+
+-- the edit alone by the statement's grantor
+abbrev pub GrantsEdit : List Item → Who → GrantPrivileges → Edit → Type 0
+GrantsEdit c who parts edit = (grantor : List ℕ) × IsGrantor c who parts.grantor grantor × GrantsEditBy c grantor (target_object who parts.target) parts edit
 
 -- REVOKE: names in reading order, CURRENT_ROLE behind them, and nothing else
 abbrev pub revoking_refusals : List Item → Who → RevokePrivileges → List (Refusal → Type 0)
@@ -53,7 +62,7 @@ revoking_refusals c who parts = unknown_names c (target_object who parts.target)
 
 -- what this grantor granted to the grantees of what is named on the object is destroyed
 abbrev pub RevokesBy : List Item → List ℕ → Object → RevokePrivileges → Edit → Type 0
-RevokesBy c grantor object parts edit = Takes c (IsIdentified object (named_privileges parts.target.kind object parts.privileges) grantor (named_grantees parts.grantees) parts.option_alone) edit
+RevokesBy c grantor object parts edit = IsTaking c (IsIdentified object (named_privileges parts.target.kind object parts.privileges) grantor (named_grantees parts.grantees) parts.option_alone) edit
 
 -- the same by the statement's grantor
 abbrev pub Revokes : List Item → Who → RevokePrivileges → Edit → Type 0

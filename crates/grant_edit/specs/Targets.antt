@@ -16,6 +16,7 @@ use Rattle.cat_items.specs.declared.item.Item.TheVariants as item
 use Rattle.cat_items.specs.Reach.{Has}
 use Rattle.cat_items.specs.Ranges.{IsDomainOf}
 use Rattle.cat_items.specs.Rights.{path_of, IsTable}
+use Rattle.edit_rules.specs.First.{tests_of}
 use Rattle.edit_rules.specs.Names.{unknown_authorization, unknown_column}
 
 -- FUNCTION names a routine that returns a value, PROCEDURE one that doesn't, ROUTINE either
@@ -46,15 +47,10 @@ abbrev pub unknown_grantee : List Item → Grantee → Refusal → Type 0
 unknown_grantee c grantee.Public refusal = ⊥
 unknown_grantee c (grantee.Named name) refusal = unknown_authorization c name refusal
 
--- the tests of each of these, one after the other
-abbrev pub tests_of_each : {X : Type 0} → (X → List (Refusal → Type 0)) → List X → List (Refusal → Type 0)
-tests_of_each f [] = []
-tests_of_each f (x ∷ xs) = f x ++ tests_of_each f xs
-
 -- the columns of the lists, in reading order
 abbrev pub unknown_columns : List Item → Object → Privileges → List (Refusal → Type 0)
 unknown_columns c object All = []
-unknown_columns c object (Listed all) = tests_of_each (λ (p : Privilege). map (unknown_column c object) p.columns) all
+unknown_columns c object (Listed all) = tests_of (λ (p : Privilege). map (unknown_column c object) p.columns) all
 
 -- the names of the statement in reading order: columns, target, grantees
 abbrev pub unknown_names : List Item → Object → Privileges → TargetKind → List Grantee → List (Refusal → Type 0)

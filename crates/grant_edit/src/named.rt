@@ -1,17 +1,16 @@
 //! The privileges that a statement names, and to whom.
 
-ghost use Rattle.std.specs.Prelude.{◌≡◌, ◌↔◌, ◌∷◌, ◌++◌, [], map, IfOk, OnOk, IsTrue};
+ghost use Rattle.std.specs.Prelude.{◌≡◌, ◌∷◌, ◌++◌, [], map, IfOk, OnOk};
 ghost use Rattle.std.specs.Option.{option_copied};
 ghost use Rattle.std.specs.List.{flat_map};
 ghost use Rattle.sql_tree.specs.declared.rights.Action.{Action};
 ghost use Rattle.sql_tree.specs.declared.rights.Privilege.{Privilege};
 ghost use Rattle.sql_tree.specs.declared.rights.TargetKind.TheVariants as kinds;
 ghost use Rattle.cat_items.specs.Needs.{column_need, object_need};
-ghost use Rattle.edit_rules.specs.Privileges.{IsBehind};
 ghost use Rattle.grant_edit.specs.Named as spec;
 
 use cat_items::{Auth, Need};
-use edit_rules::path_of;
+use edit_rules::{is_behind, path_of};
 use sql_tree::{Action, Grantee, Items, Name, Object, Privilege, Privileges, TargetKind};
 use std::alloc::{AllocError, Global};
 
@@ -125,16 +124,6 @@ pub fn named_privileges(
     match privileges {
         Privileges::All => all_on(alloc, kind, object),
         Privileges::Listed(all) => listed(alloc, object, all),
-    }
-}
-
-/// Whether a need doesn't come before the least so far.
-fn is_behind(least: Option<&Need>, need: &Need) -> bool
-    ensures { IsTrue result ↔ IsBehind (option_copied least.entry) need.now }
-{
-    match least {
-        None => false,
-        Some(least) => least.cmp(need).is_le(),
     }
 }
 

@@ -154,7 +154,8 @@ pub fn revoke(
 ///
 /// Each grantee is granted what is named and can be granted: that of which a grant option stands whose grantee
 /// the grantor reaches. With SELECT, INSERT, UPDATE and REFERENCES on a whole table or view go those on its
-/// columns. Where nothing can be granted it is refused, and the least privilege that is named is told.
+/// columns that can be granted too. A column, the object, a grantee or the current role may not be there; where nothing
+/// can be granted the least privilege that is named is told.
 pub fn edit_grant(
     alloc: Global,
     c: &Catalogue,

@@ -4,7 +4,7 @@ ghost use Rattle.std.specs.Prelude.{◌≡◌, ◌↔◌, ◌∷◌, [], map, Is
 ghost use Rattle.sql_tree.specs.declared.rights.Privilege.{Privilege};
 ghost use Rattle.cat_items.specs.Ranges.{IsDomainOf, IsIn};
 ghost use Rattle.cat_items.specs.Reach.{Has};
-ghost use Rattle.edit_rules.specs.First.{HasPassed};
+ghost use Rattle.edit_rules.specs.First.{HasPassed, tests_of};
 ghost use Rattle.edit_rules.specs.Names.{unknown_column};
 ghost use Rattle.grant_edit.specs.Targets as spec;
 
@@ -100,7 +100,7 @@ fn test_list(c: &Catalogue, object: &Object, names: &Items<Name>) -> Result<(), 
 
 /// Refuses the first column of all lists that doesn't stand.
 fn test_lists(c: &Catalogue, object: &Object, listed: &Items<Privilege>) -> Result<(), EditError>
-    ensures { HasPassed (spec.tests_of_each (λ (p : Privilege). map (unknown_column c.now.items object.now) p.columns) listed.now) result }
+    ensures { HasPassed (tests_of (λ (p : Privilege). map (unknown_column c.now.items object.now) p.columns) listed.now) result }
 {
     for privilege in listed.as_slice() {
         test_list(c, object, &privilege.columns)?;

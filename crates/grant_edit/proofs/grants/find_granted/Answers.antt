@@ -2,9 +2,10 @@ use Rattle.std.proofs.Common.{Vec, Global, [], ◌∷◌, ◌++◌, ◌↔◌, t
 use Rattle.std.specs.List.{Contains}
 use Rattle.std.proofs.lemmas.Bool.{both_ways}
 use Rattle.cat_items.specs.declared.need.Need.{Need}
+use Rattle.edit_rules.proofs.Lists.{take_next, take_whole}
 use Rattle.grant_edit.specs.Grants.{AllGranted, CanGrant, IsGranted}
 use Rattle.grant_edit.proofs.GrantLemmas.{all_more, granted_more, granted_same, not_all}
-use Rattle.grant_edit.proofs.Lists.{contains_at, take_next, take_whole}
+use Rattle.grant_edit.proofs.Lists.{contains_at}
 use Rattle.grant_edit.proofs.grants.find_granted.Goals as goal
 use Rattle.grant_edit.proofs.grants.find_granted.Goals.{then-met_by+in_ok-push_granted, else-met_by}
 

@@ -1,9 +1,9 @@
 use Rattle.std.proofs.Common.{Some, subst, sym}
 use Rattle.std.specs.Option.{option_copied}
 use Rattle.std.proofs.lemmas.Bool.{both_ways}
+use Rattle.edit_rules.proofs.Lists.{take_next, take_whole}
 use Rattle.grant_edit.specs.Named.{IsLeastOf}
 use Rattle.grant_edit.proofs.LeastLemmas.{stays, takes}
-use Rattle.grant_edit.proofs.Lists.{take_next, take_whole}
 use Rattle.grant_edit.proofs.named.least.Goals as goal
 use Rattle.grant_edit.proofs.named.least.Goals.{then-not-is_behind, else-not-is_behind}
 

@@ -2,9 +2,9 @@ use Rattle.std.proofs.Common.{[], ◌∷◌, ◌++◌, ◌+◌, ◌≡◌, drop,
 use Rattle.std.proofs.lemmas.Bool.{both_ways}
 use Rattle.std.proofs.lemmas.List.{take-append-drop}
 use Rattle.cat_items.specs.declared.item.Item.{Item}
+use Rattle.edit_rules.proofs.Lists.{take_next, take_whole}
 use Rattle.grant_edit.specs.Named.{named_grantees}
 use Rattle.grant_edit.specs.Revokes.{IsIdentified}
-use Rattle.grant_edit.proofs.Lists.{take_next, take_whole}
 use Rattle.grant_edit.proofs.RevokeLemmas.{AreThose, taken_order, those_with, those_without}
 use Rattle.grant_edit.proofs.revokes.identified.Goals as goal
 use Rattle.grant_edit.proofs.revokes.identified.Goals.{then-is_identified+in_ok-copy+in_ok-push, else-is_identified}

@@ -1,9 +1,9 @@
 use Rattle.std.proofs.Common.{◌↔◌, take, sym, subst}
 use Rattle.std.specs.List.{Contains}
 use Rattle.cat_items.specs.declared.item.Item.{Item}
+use Rattle.edit_rules.proofs.Lists.{take_next, take_whole}
 use Rattle.grant_edit.specs.Grants.{IsGrant}
 use Rattle.grant_edit.specs.Named.{named_grantees}
-use Rattle.grant_edit.proofs.Lists.{take_next, take_whole}
 use Rattle.grant_edit.proofs.RightLemmas.{of_one_more}
 use Rattle.grant_edit.proofs.rights.grants.Goals as goal
 

@@ -5,9 +5,9 @@ use Rattle.cat_items.specs.declared.item.Item.{Item}
 use Rattle.cat_items.specs.declared.need.Auth.{Auth}
 use Rattle.cat_items.specs.declared.need.Auth.TheVariants.{Named}
 use Rattle.cat_items.specs.declared.need.Need.{Need}
+use Rattle.edit_rules.proofs.Lists.{take_next, take_whole}
 use Rattle.grant_edit.specs.Grants.{IsGrant, IsOfRight}
 use Rattle.grant_edit.specs.Named.{grantee_auth, named_grantees}
-use Rattle.grant_edit.proofs.Lists.{take_next, take_whole}
 use Rattle.grant_edit.proofs.RightLemmas.{to_one_more}
 use Rattle.grant_edit.proofs.rights.put_privilege.Goals as goal
 

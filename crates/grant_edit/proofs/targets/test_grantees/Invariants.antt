@@ -1,7 +1,7 @@
-use Rattle.std.proofs.Common.{[], ◌∷◌, take}
+use Rattle.std.proofs.Common.{map, take}
 use Rattle.edit_rules.specs.First.{First, Passes}
-use Rattle.grant_edit.specs.Targets.{tests_of_each, unknown_grantee}
+use Rattle.grant_edit.specs.Targets.{unknown_grantee}
 use Rattle.grant_edit.proofs.targets.test_grantees.Given as goal
 
 abbrev pub invariant-loop-grantee : goal.invariant-loop-grantee
-invariant-loop-grantee l = Passes (First (tests_of_each (λ grantee. unknown_grantee l.c.items grantee ∷ []) (take l.grantee-index l.grantees)))
+invariant-loop-grantee l = Passes (First (map (unknown_grantee l.c.items) (take l.grantee-index l.grantees)))

@@ -1,8 +1,7 @@
-use Rattle.std.proofs.Common.{[], ◌∷◌, take}
+use Rattle.std.proofs.Common.{map, take}
 use Rattle.edit_rules.specs.First.{First, Passes}
 use Rattle.edit_rules.specs.Names.{unknown_column}
-use Rattle.grant_edit.specs.Targets.{tests_of_each}
 use Rattle.grant_edit.proofs.targets.test_list.Given as goal
 
 abbrev pub invariant-loop-name : goal.invariant-loop-name
-invariant-loop-name l = Passes (First (tests_of_each (λ name. unknown_column l.c.items l.object name ∷ []) (take l.name-index l.names)))
+invariant-loop-name l = Passes (First (map (unknown_column l.c.items l.object) (take l.name-index l.names)))
