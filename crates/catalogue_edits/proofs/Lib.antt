@@ -1,5 +1,4 @@
 pub mod Openings
 pub mod Outcomes
 pub mod Settled
-pub mod SettledGrants
 pub mod Plans

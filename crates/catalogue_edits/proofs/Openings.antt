@@ -7,7 +7,6 @@ use Rattle.finite_chains.proofs.Chains.{IsChain-within}
 use Rattle.finite_chains.proofs.Members.{Contains-head}
 use Rattle.cat_items.specs.declared.item.Item.{Item}
 use Rattle.cat_items.specs.declared.item.Item.TheVariants as item
-use Rattle.cat_items.specs.declared.item.Right.{Right}
 use Rattle.cat_items.specs.Catalogues.{IsInOrder, IsUserOf}
 use Rattle.cat_items.specs.Good.{IsGood}
 use Rattle.cat_items.specs.Reach.{Has, GrantsRole}

@@ -1,5 +1,5 @@
 -- What comes of edits.
-use Rattle.std.proofs.Common.{◌≡◌, ◌<◌, ◌≤◌, ℕ, Bool, List, [], ◌∷◌, Option, Some, None, Result, Ok, Err, length, sym, ap, subst, refl, inl, inr, arith}
+use Rattle.std.proofs.Common.{◌≡◌, ◌<◌, ◌≤◌, ℕ, Bool, List, [], ◌∷◌, Option, Some, None, Result, Ok, Err, length, ap, subst, refl, inl, inr, arith}
 use Rattle.std.specs.Result.{IsErrAnd}
 use Rattle.sql_tree.specs.declared.statement.Statement.{Statement}
 use Rattle.cat_items.specs.declared.edit.Edit.{Edit}

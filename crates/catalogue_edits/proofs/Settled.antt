@@ -2,7 +2,7 @@
 use Rattle.std.proofs.Common.{◌≡◌, ℕ, Bool, List, [], Option, Some, None, length, refl, sym, ◌∙◌, ap, subst}
 use Rattle.sql_tree.specs.declared.statement.SchemaNameClause.{SchemaNameClause}
 use Rattle.sql_tree.specs.declared.statement.Statement.{Statement}
-use Rattle.sql_tree.specs.declared.statement.Statement.TheVariants.{CreateSchema, CreateRole, DropObject, DropRole, GrantPrivileges, GrantRoles, RevokePrivileges, RevokeRoles}
+use Rattle.sql_tree.specs.declared.statement.Statement.TheVariants.{CreateSchema, CreateTable, CreateRole, DropObject, DropRole, GrantPrivileges, GrantRoles, RevokePrivileges, RevokeRoles}
 use Rattle.cat_items.specs.declared.edit.Edit.{Edit}
 use Rattle.cat_items.specs.declared.edit.Refusal.{Refusal}
 use Rattle.cat_items.specs.declared.edit.Refusal.TheVariants.{StillNeeded, CatalogFull}
@@ -17,12 +17,14 @@ use Rattle.new_catalogues.proofs.FurtherLemmas.{one_further}
 use Rattle.new_catalogues.proofs.WidthLemmas.{one_width}
 use Rattle.edit_rules.specs.First.{First}
 use Rattle.edit_rules.proofs.FirstLaws.{IsSettled, AreSettled, first_settled}
+use Rattle.edit_rules.proofs.Settled.{grantor_settled}
+use Rattle.table_definitions.proofs.Settled as tables
 use Rattle.define_edit.specs.CreatedSchemas.{create_schema_refusals}
 use Rattle.drop_edit.proofs.Settled.{drop_settled, drop_refusals_settled}
-use Rattle.role_edit.proofs.Settled.{creation_settled, creation_refusals_settled, grant_settled, grant_refusals_settled, grantor_settled, revoke_settled, revoke_refusals_settled}
-use Rattle.role_edit.proofs.Settled as roles
+use Rattle.role_edit.proofs.Settled.{creation_settled, creation_refusals_settled, grant_settled, grant_refusals_settled, revoke_settled, revoke_refusals_settled}
 use Rattle.grant_edit.specs.Grants.{IsPartial}
 use Rattle.grant_edit.specs.Statements.{privileges_named}
+use Rattle.grant_edit.proofs.Settled.{granting_settled, granting_refusals_settled, revocation_settled, revoking_refusals_settled}
 use Rattle.catalogue_edits.specs.declared.warning.Warning.{Warning}
 use Rattle.catalogue_edits.specs.declared.warning.Warning.TheVariants.{NotGranted, NotRevoked}
 use Rattle.catalogue_edits.specs.Limits.{too_many_items, too_many_columns}
@@ -30,17 +32,17 @@ use Rattle.catalogue_edits.specs.Restrict.{restricted, still_needed}
 use Rattle.catalogue_edits.specs.Revisions.{for_edit, outcome_refusals, revision_refusals, IsRevised}
 use Rattle.catalogue_edits.specs.Statements.{edit_refusals, IsEditOf}
 use Rattle.catalogue_edits.specs.Warnings.{WarnsWhere, IsWarning}
-use Rattle.catalogue_edits.proofs.SettledGrants.{granting_settled, granting_refusals_settled, revocation_settled, revoking_refusals_settled}
 
 -- ---- edits
 
 pub edit_settled : (c : List Item) (who : Who) (s : Statement) (a b : Edit) → IsEditOf c who s a → IsEditOf c who s b → a ≡ b
 edit_settled c who (CreateSchema s) a b p q = p ∙ sym q
+edit_settled c who (CreateTable s) a b p q = tables.creation_settled c who s a b p q
 edit_settled c who (DropObject d) a b p q = drop_settled c who (DropObject d) a b p q
 edit_settled c who (CreateRole r) a b p q = creation_settled c who r a b p q
 edit_settled c who (GrantRoles g) a b p q = grant_settled c who g a b p q
 edit_settled c who (RevokeRoles g) a b p q = revoke_settled c who g a b p q
-edit_settled c who (DropRole role) a b p q = roles.drop_settled c role a b p q
+edit_settled c who (DropRole role) a b p q = drop_settled c who (DropRole role) a b p q
 edit_settled c who (GrantPrivileges g) a b p q = granting_settled c who g a b p q
 edit_settled c who (RevokePrivileges g) a b p q = revocation_settled c who g a b p q
 edit_settled c who s a b p q = absurd p
@@ -50,11 +52,12 @@ create_schema_settled c who clause = ((λ a b p q. p.1 ∙ sym q.1), ((λ a b p 
 
 edit_refusals_settled : (c : List Item) (who : Who) (s : Statement) → AreSettled (edit_refusals c who s)
 edit_refusals_settled c who (CreateSchema s) = create_schema_settled c who s.schema
+edit_refusals_settled c who (CreateTable s) = tables.creation_refusals_settled c who s
 edit_refusals_settled c who (DropObject d) = drop_refusals_settled c who (DropObject d)
 edit_refusals_settled c who (CreateRole r) = creation_refusals_settled c who r
 edit_refusals_settled c who (GrantRoles g) = grant_refusals_settled c who g
 edit_refusals_settled c who (RevokeRoles g) = revoke_refusals_settled c who g
-edit_refusals_settled c who (DropRole role) = roles.drop_refusals_settled c who role
+edit_refusals_settled c who (DropRole role) = drop_refusals_settled c who (DropRole role)
 edit_refusals_settled c who (GrantPrivileges g) = granting_refusals_settled c who g
 edit_refusals_settled c who (RevokePrivileges g) = revoking_refusals_settled c who g
 edit_refusals_settled c who s = tt

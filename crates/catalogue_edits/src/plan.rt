@@ -15,7 +15,7 @@ use cat_items::{Catalogue, Edit, EditError, Who};
 use define_edit::edit_create;
 use drop_edit::edit_drop;
 use grant_edit::{Granting, edit_grant, edit_revoke};
-use role_edit::{drop_role, edit_role};
+use role_edit::edit_role;
 use sql_tree::{Behaviour, Statement};
 use std::alloc::Global;
 
@@ -79,9 +79,10 @@ pub fn plan_of(
 {
     match statement {
         Statement::CreateSchema(_) => Ok(silent(edit_create(alloc, c, who, statement)?)),
+        Statement::CreateTable(_) => Ok(silent(edit_create(alloc, c, who, statement)?)),
         Statement::DropObject(_) => Ok(silent(edit_drop(alloc, c, who, statement)?)),
         Statement::CreateRole(_) => Ok(silent(edit_role(alloc, c, who, statement)?)),
-        Statement::DropRole(role) => Ok(silent(drop_role(alloc, c, who, role)?)),
+        Statement::DropRole(_) => Ok(silent(edit_drop(alloc, c, who, statement)?)),
         Statement::GrantRoles(_) => Ok(silent(edit_role(alloc, c, who, statement)?)),
         Statement::RevokeRoles(_) => Ok(revoking(edit_role(alloc, c, who, statement)?)),
         Statement::GrantPrivileges(_) => Ok(granting(edit_grant(alloc, c, who, statement)?)),

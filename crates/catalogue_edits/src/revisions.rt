@@ -11,6 +11,7 @@ use crate::outcome::outcome;
 use crate::plan::{plan_of, restricted};
 use crate::warning::Warning;
 use cat_items::{Catalogue, EditError, Limits, Who};
+use define_edit::is_built_creation;
 use sql_tree::{DropKind, Statement};
 use std::alloc::Global;
 
@@ -19,7 +20,7 @@ pub fn is_edit(statement: &Statement) -> bool
     ensures { IsTrue result ↔ IsBuiltEdit statement.now }
 {
     match statement {
-        Statement::CreateSchema(schema) => schema.elements.is_empty(),
+        Statement::CreateSchema(_) | Statement::CreateTable(_) => is_built_creation(statement),
         Statement::DropObject(parts) => matches!(parts.kind, DropKind::Table),
         Statement::CreateRole(_) | Statement::GrantRoles(_) | Statement::RevokeRoles(_) => true,
         Statement::DropRole(_) => true,
