@@ -7,7 +7,7 @@ use Rattle.sql_words.specs.declared.word.Word.{Word}
 use Rattle.sql_tree.specs.declared.statement.Connect.{Connect as ConnectParts}
 use Rattle.sql_tree.specs.declared.statement.RoleChoice.{RoleChoice}
 use Rattle.sql_tree.specs.declared.statement.Statement.{Statement}
-use Rattle.sql_tree.specs.declared.statement.Statement.TheVariants.{Connect, SetConnection, Disconnect, SetSchema, SetRole}
+use Rattle.sql_tree.specs.declared.statement.Statement.TheVariants.{Connect, CreateTable, SetConnection, Disconnect, SetSchema, SetRole}
 use Rattle.sql_grammar.specs.Profile.{OutOfProfile}
 use Rattle.sql_grammar.specs.StatementRules.{Grammar}
 use Rattle.cat_items.specs.declared.edit.EditError.{EditError}
@@ -21,6 +21,7 @@ use Rattle.cat_items.specs.declared.limits.Limits.{Limits}
 use Rattle.cat_items.specs.declared.need.Auth.TheVariants.{Named}
 use Rattle.cat_items.specs.Reach.{Has, Reaches}
 use Rattle.cat_items.specs.Rights.{IsRole}
+use Rattle.statement_forms.proofs.Forms.{table_forms}
 use Rattle.define_edit.specs.Creations.{HasForms}
 use Rattle.edit_rules.specs.First.{First, Passes, Tested}
 use Rattle.edit_rules.proofs.FirstLaws.{passes_none, passes_more, first_right, passes_both}
@@ -155,6 +156,7 @@ same_exit tests P Q same Memory h = h
 
 -- what the grammar gives beside types
 pub forms : (text : List ℕ) (s : Statement) → Reads text s → HasForms s
+forms text (CreateTable t) reads = table_forms text reads.words t reads.tokens reads.grammar
 forms text s reads = tt
 
 -- ---- answers

@@ -1,4 +1,5 @@
 pub mod Answering
+pub mod Connections
 pub mod Decided
 pub mod HistoryLaws
 pub mod SessionLaws

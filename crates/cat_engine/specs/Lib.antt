@@ -1,5 +1,6 @@
 pub mod Built
 pub mod ConnectionRefusals
+pub mod Connections
 pub mod Contents
 pub mod Effects
 pub mod Histories

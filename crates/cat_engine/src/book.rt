@@ -59,7 +59,7 @@ impl Model for Book {
 impl Book {
     /// The book of these users, without connections and with an empty journal. `Err` is want of memory.
     ///
-    /// `limits` bound the catalogue's items and the journal's bytes.
+    /// `limits` bound the catalogue's items, the columns of each table and view, and the journal's bytes.
     pub fn new(alloc: Global, users: &Vec<Name>, limits: Limits) -> Result<Book, AllocError>
         requires distinct { AllPairs (λ a b. a ≢ b) users.now.items }
         requires allowed { All IsAuthorizationName users.now.items }

@@ -2,8 +2,10 @@
 
 ghost use Rattle.std.specs.Prelude.{◌≡◌, ◌++◌, ◌∷◌, [], ℕ, List};
 ghost use Rattle.cat_items.specs.declared.edit.Refusal.{Refusal};
+ghost use Rattle.cat_engine.specs.Connections.{IsProperSession};
 ghost use Rattle.cat_engine.specs.Contents.{State};
-ghost use Rattle.cat_engine.specs.Histories.{IsAfter, IsReplyAt};
+ghost use Rattle.cat_engine.specs.Histories.{IsAfter, IsReached, IsReplyAt};
+ghost use Rattle.cat_engine.specs.Sessions.{session_of};
 ghost use Rattle.cat_engine.specs.Steps.{Step};
 ghost use Rattle.cat_engine.specs.declared.journal.Entry.{Entry};
 ghost use Rattle.cat_engine.specs.declared.reply.Reply.{Reply};
@@ -28,4 +30,10 @@ pub fn a_history_settles_its_state()
 /// A start and a history settle the reply at each place.
 pub fn a_history_settles_its_replies()
     ensures { (start : State) (history : List Entry) (k : ℕ) (reply other : Reply) → IsReplyAt start history k reply → IsReplyAt start history k other → reply ≡ other }
+{}
+
+/// In each state that a book reaches, the connections of a session have names of their own, and the current one is one
+/// of them (SQL:2003 part 2, 17).
+pub fn connections_have_their_own_names()
+    ensures { (state : State) → IsReached state → (number : ℕ) → IsProperSession (session_of state.content.sessions number) }
 {}

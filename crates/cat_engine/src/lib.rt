@@ -14,7 +14,7 @@ pub use book::Book;
 pub use journal::Entry;
 pub use laws::{
     a_history_settles_its_replies, a_history_settles_its_state, a_refusal_changes_nothing,
-    a_step_is_settled,
+    a_step_is_settled, connections_have_their_own_names,
 };
 pub use reply::Reply;
 

@@ -1,8 +1,11 @@
 use Rattle.std.proofs.Common.{sym, subst}
 use Rattle.cat_engine.specs.Steps.{Answers}
 use Rattle.cat_engine.specs.declared.reply.Reply.{Reply}
-use Rattle.cat_engine.proofs.Answering.{answer_refused, answer_done}
+use Rattle.cat_engine.proofs.Answering.{answer_refused, answer_done, forms}
 use Rattle.cat_engine.proofs.environment.Environment.answer.Goals as goal
+
+pub execute-requires-clause-forms : goal.execute-requires-clause-forms
+execute-requires-clause-forms c = forms c.args.text.now c.in-Ok.statement c.in-Ok.ensures.1
 
 pub returns-in-Ok-execute-clause-ok : goal.returns-in-Ok-execute-clause-ok
 returns-in-Ok-execute-clause-ok c =
