@@ -5,8 +5,6 @@ mod laws;
 mod outcome;
 mod plan;
 mod revisions;
-#[cfg(test)]
-mod tests;
 mod warning;
 
 pub use laws::{a_refusal_is_settled, a_revision_is_settled};

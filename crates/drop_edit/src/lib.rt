@@ -3,7 +3,5 @@
 
 mod drops;
 mod tables;
-#[cfg(test)]
-mod tests;
 
 pub use drops::edit_drop;

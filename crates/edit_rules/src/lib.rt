@@ -5,8 +5,6 @@
 mod names;
 mod owners;
 mod privileges;
-#[cfg(test)]
-mod tests;
 
 pub use names::{
     has_column, is_authorization, is_base_table, is_constraint, is_role, is_schema, is_table,

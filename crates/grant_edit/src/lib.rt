@@ -7,8 +7,6 @@ mod revokes;
 mod rights;
 mod statements;
 mod targets;
-#[cfg(test)]
-mod tests;
 
 pub use grants::Granting;
 pub use statements::{edit_grant, edit_revoke};

@@ -4,8 +4,6 @@
 mod built;
 mod made;
 mod tables;
-#[cfg(test)]
-mod tests;
 
 pub use built::is_built;
 pub use tables::create_table;

@@ -5,8 +5,6 @@ mod bound;
 mod copies;
 mod foreign;
 mod own;
-#[cfg(test)]
-mod tests;
 
 pub use bound::{columns_meant, meant_key};
 pub use foreign::foreign_keys;

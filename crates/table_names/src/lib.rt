@@ -4,8 +4,6 @@
 mod given;
 mod named;
 mod refusals;
-#[cfg(test)]
-mod tests;
 
 pub use given::is_known_column;
 pub use named::{NamedConstraint, given_names, name_constraints};

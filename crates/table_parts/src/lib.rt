@@ -5,8 +5,6 @@ mod classes;
 mod columns;
 mod marks;
 mod parts;
-#[cfg(test)]
-mod tests;
 
 pub use classes::{Class, class_of, default_class};
 pub use columns::{default_in, has_column, is_among, is_not_null};

@@ -3,8 +3,6 @@
 
 mod references;
 mod rules;
-#[cfg(test)]
-mod tests;
 mod types;
 
 pub use rules::test_rules;

@@ -1,0 +1,5 @@
+//! Tests of the calls that make edits, over the catalogue of a book.
+#![tactic(auto)]
+
+#[cfg(test)]
+mod tests;

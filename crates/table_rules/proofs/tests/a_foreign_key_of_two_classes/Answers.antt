@@ -1,7 +1,0 @@
-use Rattle.std.proofs.Common.{◌∙◌, sym, subst}
-use Rattle.cat_items.specs.Good.{IsGood}
-use Rattle.table_keys.proofs.EmptyLemmas.{empty_is_good}
-use Rattle.table_rules.proofs.tests.a_foreign_key_of_two_classes.Goals as goal
-
-pub test_types-requires-clause-good : goal.test_types-requires-clause-good
-test_types-requires-clause-good c = subst IsGood (sym (c.of_sorted-c.ensures.items ∙ c.new.ensures.items)) empty_is_good
