@@ -6,7 +6,7 @@ ghost use Rattle.std.specs.Vec.{vec_capacity};
 use sql_tree::Text;
 
 /// A statement that was answered: the session's number, and the text without its semicolon.
-#[derive(Debug, Drop)]
+#[derive(Drop)]
 pub struct Entry {
     pub session: u32,
     pub text: Text,

@@ -9,7 +9,7 @@ use sql_tree::{Items, Name};
 use std::alloc::{AllocError, Global};
 
 /// A connection: its name, and for whom its statements are run.
-#[derive(Debug, Drop)]
+#[derive(Drop)]
 pub struct Connection {
     pub name: Name,
     pub who: Who,

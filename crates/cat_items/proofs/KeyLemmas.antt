@@ -5,7 +5,7 @@ use Rattle.std.specs.Ordering.{ordering_reverse}
 use Rattle.std.specs.declared.cmp.Ordering.TheVariants.{Less, Equal, Greater}
 use Rattle.std.proofs.lemmas.List.{take_more, get_or_default}
 use Rattle.std.proofs.lemmas.List.Elements.{Contains-append_left, Contains-push, Contains-push_cases}
-use Rattle.sql_tree.specs.Names.{name_cmp-IsAntisymmetric}
+use Rattle.sql_names.specs.Names.{name_cmp-IsAntisymmetric}
 use Rattle.cat_items.specs.declared.item.Item.{Item}
 use Rattle.cat_items.specs.declared.item.Schema.{Schema as SchemaItem}
 use Rattle.cat_items.specs.declared.item.Item.TheVariants.{User, Role, Schema, Table, View, Column, Domain, DomainCheck, Key, Foreign, Check, Assertion, Routine, RoleAuth, RoleAdmin, Held, Grantable}

@@ -12,10 +12,10 @@ use Rattle.std.specs.Cmp.{nat_cmp_is, ranked}
 use Rattle.std.proofs.lemmas.Bool.{false≢true, cases_lt, cases_eq, ne_eqb}
 use Rattle.std.proofs.lemmas.Cmp.{tied_itself}
 use Rattle.std.proofs.lemmas.List.Sorted.{IsPartitionedBy-leb}
-use Rattle.sql_tree.specs.Names.{name_cmp-IsAntisymmetric}
+use Rattle.sql_names.specs.Names.{name_cmp-IsAntisymmetric}
 use Rattle.sql_tree.specs.declared.rights.Action.{Action}
 use Rattle.sql_tree.specs.declared.rights.Action.TheVariants as action
-use Rattle.sql_tree.specs.contracts.object.ObjectOrd.TheImpl.Laws as object_laws
+use Rattle.sql_names.specs.contracts.object.ObjectOrd.TheImpl.Laws as object_laws
 use Rattle.cat_items.specs.declared.item.Item.{Item}
 use Rattle.cat_items.specs.declared.item.Item.TheVariants as item
 use Rattle.cat_items.specs.declared.ranges.ObjectKind.{ObjectKind}

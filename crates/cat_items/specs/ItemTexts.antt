@@ -1,6 +1,6 @@
 -- How needs and items are told.
 use Rattle.std.specs.Prelude.{ℕ, List, [], ◌∷◌, ◌++◌, Option, Some, None, codes, flat_map}
-use Rattle.sql_text.specs.Texts.{T, name_text, object_text}
+use Rattle.sql_spelling.specs.Texts.{T, name_text, object_text}
 use Rattle.sql_tree.specs.declared.rights.Action.{Action}
 use Rattle.sql_tree.specs.declared.rights.Action.TheVariants as actions
 use Rattle.cat_items.specs.declared.need.Auth.{Auth}

@@ -1,7 +1,7 @@
 -- What names, paths and needs stand for whose parts are lent.
 use Rattle.std.specs.Prelude.{ℕ, List}
 use Rattle.std.specs.Option.{option_copied}
-use Rattle.sql_tree.specs.declared.object.Object.{Object}
+use Rattle.sql_names.specs.declared.object.Object.{Object}
 use Rattle.cat_items.specs.declared.need.Need.{Need}
 use Rattle.cat_items.specs.declared.keys.ObjectKey.{ObjectKey}
 use Rattle.cat_items.specs.declared.keys.PathKey.{PathKey}

@@ -1,15 +1,15 @@
 -- Of what pieces a query, a condition or a body is made, and when it is resolved and well formed.
 use Rattle.std.specs.Prelude.{◌≡◌, ◌<◌, ◌≤◌, ◌+◌, ◌⊎◌, ℕ, List, [], ◌∷◌, ◌++◌, Option, Some, None, All, length, map, flat_map}
 use Rattle.std.specs.Str.{IsUtf8}
-use Rattle.sql_tree.specs.declared.column.ObjectName.{ObjectName}
-use Rattle.sql_tree.specs.declared.column.ObjectName.TheVariants.{Qualified}
-use Rattle.sql_tree.specs.declared.column.Reference.{Reference}
-use Rattle.sql_tree.specs.declared.column.Reference.TheVariants as references
-use Rattle.sql_tree.specs.declared.column.TableReference.{TableReference}
-use Rattle.sql_tree.specs.declared.sort.SqlType.{SqlType}
-use Rattle.sql_tree.specs.declared.sort.SqlType.TheVariants as sorts
-use Rattle.sql_tree.specs.declared.sort.Default.{Default}
-use Rattle.sql_tree.specs.declared.sort.Default.TheVariants as defaults
+use Rattle.sql_names.specs.declared.column.ObjectName.{ObjectName}
+use Rattle.sql_names.specs.declared.column.ObjectName.TheVariants.{Qualified}
+use Rattle.sql_names.specs.declared.column.Reference.{Reference}
+use Rattle.sql_names.specs.declared.column.Reference.TheVariants as references
+use Rattle.sql_names.specs.declared.column.TableReference.{TableReference}
+use Rattle.sql_names.specs.declared.sort.SqlType.{SqlType}
+use Rattle.sql_names.specs.declared.sort.SqlType.TheVariants as sorts
+use Rattle.sql_names.specs.declared.sort.Default.{Default}
+use Rattle.sql_names.specs.declared.sort.Default.TheVariants as defaults
 use Rattle.sql_tree.specs.declared.body.Body.{Body}
 use Rattle.sql_tree.specs.declared.body.Body.TheVariants as bodies
 use Rattle.sql_tree.specs.declared.body.Act.{Act}

@@ -9,7 +9,7 @@ use Rattle.cat_items.specs.declared.ranges.ObjectKind.{ObjectKind}
 use Rattle.cat_items.specs.declared.ranges.ObjectKind.TheVariants as object
 use Rattle.cat_items.specs.declared.ranges.Part.{Part}
 use Rattle.cat_items.specs.declared.ranges.Part.TheVariants.{Objects, User, Role, Schema, Table, View, Columns, Domain, Key, Routine, RoleAuthorizations, RoleGrants, AdminOptions, Held, Grantable}
-use Rattle.sql_tree.specs.declared.object.Object.{Object}
+use Rattle.sql_names.specs.declared.object.Object.{Object}
 use Rattle.cat_items.specs.Keys.{object_of, need_of}
 use Rattle.cat_items.specs.Order.{name_cmp, object_cmp, need_cmp, kind_of}
 use Rattle.cat_items.specs.Rights.{IsRole, IsSchema, IsBaseTable}

@@ -1,7 +1,7 @@
 -- What is relevant to an item: all that its support can depend on.
 use Rattle.std.specs.Prelude.{◌≡◌, ◌⊎◌, ◌-◌, ℕ, List, [], ◌∷◌, Option, Some, None, slice_get}
 use Rattle.std.specs.List.{Contains}
-use Rattle.sql_tree.specs.declared.object.Object.{Object}
+use Rattle.sql_names.specs.declared.object.Object.{Object}
 use Rattle.sql_tree.specs.declared.rights.Action.{Action}
 use Rattle.sql_tree.specs.declared.rights.Action.TheVariants.{Select, Insert, Update, Delete}
 use Rattle.sql_tree.specs.declared.body.Security.{Security}

@@ -2,10 +2,10 @@
 use Rattle.std.specs.Prelude.{◌≡◌, ◌≢◌, ◌↔◌, ◌<◌, ℕ, List, [], ◌∷◌, Option, Some, None, length, codes, map, true}
 use Rattle.std.specs.List.{Contains, AllPairs}
 use Rattle.std.specs.declared.cmp.Ordering.TheVariants.{Less}
-use Rattle.sql_tree.specs.declared.object.Object.{Object}
-use Rattle.sql_tree.specs.declared.sort.SqlType.{SqlType}
-use Rattle.sql_tree.specs.declared.sort.Param.{Param}
-use Rattle.sql_tree.specs.declared.column.Reference.TheVariants.{Own}
+use Rattle.sql_names.specs.declared.object.Object.{Object}
+use Rattle.sql_names.specs.declared.sort.SqlType.{SqlType}
+use Rattle.sql_names.specs.declared.sort.Param.{Param}
+use Rattle.sql_names.specs.declared.column.Reference.TheVariants.{Own}
 use Rattle.sql_tree.specs.declared.expr.Expr.{Expr}
 use Rattle.cat_items.specs.declared.item.Column.{Column}
 use Rattle.cat_items.specs.declared.item.Domain.{Domain}

@@ -1,6 +1,6 @@
 -- What an item rests on: where its support stands (dependencies and abandoned descriptors, SQL:2003 part 2, 12.7 and 11.21).
 use Rattle.std.specs.Prelude.{◌≡◌, ◌≢◌, ℕ, Bool, true, false, List, [], ◌∷◌, All, map, Option, Some, None}
-use Rattle.sql_tree.specs.declared.object.Object.{Object}
+use Rattle.sql_names.specs.declared.object.Object.{Object}
 use Rattle.sql_tree.specs.declared.rights.Action.TheVariants as action
 use Rattle.sql_tree.specs.declared.body.Security.{Security}
 use Rattle.sql_tree.specs.declared.body.Security.TheVariants.{Definer, Invoker}

@@ -1,7 +1,7 @@
 -- What survives of a list, and what an edit makes of a catalogue.
 use Rattle.std.specs.Prelude.{◌≡◌, ◌↔◌, ◌⊎◌, ℕ, List, Option, None, Some}
 use Rattle.std.specs.List.{Contains}
-use Rattle.sql_tree.specs.declared.object.Object.{Object}
+use Rattle.sql_names.specs.declared.object.Object.{Object}
 use Rattle.sql_tree.specs.declared.rights.Action.{Action}
 use Rattle.sql_tree.specs.declared.rights.Action.TheVariants.{Select, Insert, Update, Delete, Usage, Execute}
 use Rattle.finite_chains.specs.Chains.{HasSurvivors}

@@ -1,6 +1,6 @@
 -- Which privileges the system grants to the owner of a schema for its objects.
 use Rattle.std.specs.Prelude.{◌≡◌, ℕ, ◌-◌, Bool, true, false, List, All, Option, Some, None, slice_get}
-use Rattle.sql_tree.specs.declared.object.Object.{Object}
+use Rattle.sql_names.specs.declared.object.Object.{Object}
 use Rattle.sql_tree.specs.declared.rights.Action.{Action}
 use Rattle.sql_tree.specs.declared.rights.Action.TheVariants.{Select, Insert, Update, Delete, References, Usage, Execute}
 use Rattle.sql_tree.specs.declared.body.Body.{Body}

@@ -9,7 +9,7 @@ use sql_tree::{Items, Name, Path};
 use std::alloc::AllocError;
 
 /// For whom a statement is run: the user, the role that is set, if any, and the default schema.
-#[derive(Debug, Drop)]
+#[derive(Drop)]
 pub struct Who {
     pub user: Name,
     pub role: Option<Name>,

@@ -1,7 +1,7 @@
 //! Descriptors.
 
 use crate::need::{Auth, Need};
-use crate::shared::Shared;
+use sql_names::Shared;
 use sql_tree::{Body, Default, Expr, Items, Matching, Name, Object, Param, Query, Rule, SqlType};
 
 /// A schema.
@@ -149,7 +149,7 @@ pub struct Routine {
 }
 
 /// A role authorization descriptor: a role that was granted.
-#[derive(Debug, PartialEq, Eq, PartialOrd, Ord, Hash, Drop)]
+#[derive(PartialEq, Eq, PartialOrd, Ord, Hash, Drop)]
 pub struct RoleGrant {
     pub role: Name,
     pub grantor: Auth,
@@ -157,7 +157,7 @@ pub struct RoleGrant {
 }
 
 /// A privilege descriptor: a right that was granted.
-#[derive(Debug, PartialEq, Eq, PartialOrd, Ord, Hash, Drop)]
+#[derive(PartialEq, Eq, PartialOrd, Ord, Hash, Drop)]
 pub struct Right {
     pub need: Need,
     pub grantor: Auth,

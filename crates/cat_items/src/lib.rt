@@ -14,7 +14,6 @@ mod ranges;
 mod room;
 mod row;
 mod sameness;
-mod shared;
 #[cfg(test)]
 mod tests;
 mod texts;
@@ -36,6 +35,6 @@ pub use ranges::{
 };
 pub use row::{Cell, Row};
 pub use sameness::same_item;
-pub use shared::Shared;
+pub use sql_names::Shared;
 pub use texts::{item_text, need_text};
 pub use threads::{catalogue_may_be_shared, item_may_be_shared};

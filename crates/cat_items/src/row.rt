@@ -3,7 +3,7 @@
 use sql_tree::{Items, Text};
 
 /// A value of a row.
-#[derive(Debug, PartialEq, Eq, Drop)]
+#[derive(PartialEq, Eq, Drop)]
 pub enum Cell {
     Null,
     Number(u64),

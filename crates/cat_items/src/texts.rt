@@ -4,11 +4,11 @@
 
 ghost use Rattle.std.specs.Prelude.{◌≡◌, ◌++◌, OnOk, IfOk};
 ghost use Rattle.cat_items.specs.ItemTexts as spec;
-ghost use Rattle.sql_text.specs.Texts.{name_text, object_text};
+ghost use Rattle.sql_spelling.specs.Texts.{name_text, object_text};
 
 use crate::item::{Item, Right, RoleGrant};
 use crate::need::{Auth, Need};
-use sql_text::{put_name, put_object};
+use sql_spelling::{put_name, put_object};
 use sql_tree::{Action, Name, Object, Path, Text};
 use std::alloc::{AllocError, Global};
 

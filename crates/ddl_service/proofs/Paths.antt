@@ -1,6 +1,6 @@
 -- The text of a path of at most three names.
 use Rattle.std.proofs.Common.{◌≡◌, ◌≤◌, ℕ, List, [], ◌∷◌, ◌++◌, length, codes, sym, ◌∙◌, refl, ap, arith, append-nil, append_assoc, slice_get}
-use Rattle.sql_text.specs.Texts.{name_text}
+use Rattle.sql_spelling.specs.Texts.{name_text}
 use Rattle.cat_items.specs.ItemTexts.{path_text, column_text}
 use Rattle.ddl_service.specs.Printed.{first_text}
 

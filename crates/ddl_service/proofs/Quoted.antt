@@ -3,7 +3,7 @@ use Rattle.std.proofs.Common.{◌≡◌, ◌<◌, List, [], ◌∷◌, ◌++◌,
 use Rattle.std.proofs.lemmas.List.{take-append-drop, drop_more}
 use Rattle.std.proofs.lemmas.List.Concat.{flat_map-append}
 use Rattle.ddl_service.specs.Printed.{doubled}
-use Rattle.sql_text.specs.Texts.{quoted}
+use Rattle.sql_spelling.specs.Texts.{quoted}
 
 flat_map-split : (name : List ℕ) (i : ℕ) → i < length name → flat_map doubled name ≡ flat_map doubled (take i name) ++ (doubled (get_or name i 0) ++ flat_map doubled (drop (i + 1) name))
 flat_map-split name i within =

@@ -7,7 +7,7 @@ use Rattle.std.specs.Char.{is_ascii_uppercase}
 use Rattle.std.proofs.lemmas.List.{get_or-map, get_or-take, get_or_default, take_more}
 use Rattle.std.proofs.lemmas.List.Elements.{All-cons, All-nil, All-push}
 use Rattle.std.proofs.lemmas.List.Quantifiers.{all_pairs_push}
-use Rattle.sql_tree.specs.Names.{IsName}
+use Rattle.sql_names.specs.Names.{IsName}
 use Rattle.ddl_service.specs.Users.{AreUsers, Lists, MayFollow, is_regular, is_regular_byte, is_user_name}
 use Rattle.ddl_service.proofs.UserNames.{left, right, name-of_user, regular_of}
 

@@ -3,7 +3,7 @@ use Rattle.std.proofs.Common.{◌≡◌, ◌<◌, ◌≤◌, ◌&&◌, Bool, tru
 use Rattle.std.specs.List.{list_all}
 use Rattle.std.proofs.lemmas.Bool.Decides.{nat_tests}
 use Rattle.std.proofs.lemmas.Str.{IsUtf8-from_ascii}
-use Rattle.sql_tree.specs.Names.{IsName}
+use Rattle.sql_names.specs.Names.{IsName}
 use Rattle.std.specs.Char.{is_ascii_uppercase}
 use Rattle.ddl_service.specs.Users.{is_regular, is_regular_byte, is_user_name}
 

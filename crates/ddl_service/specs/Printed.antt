@@ -1,6 +1,6 @@
 -- What is written for a reply.
 use Rattle.std.specs.Prelude.{true, false, ◌==◌, if◌then◌else◌, ℕ, List, [], ◌∷◌, ◌++◌, codes, decimal, flat_map, Option, Some, None}
-use Rattle.sql_text.specs.Texts.{name_text}
+use Rattle.sql_spelling.specs.Texts.{name_text}
 use Rattle.cat_items.specs.ItemTexts.{path_text, need_text, item_text}
 use Rattle.cat_items.specs.declared.edit.Refusal.{Refusal}
 use Rattle.cat_items.specs.declared.edit.Refusal.TheVariants as r

@@ -1,6 +1,6 @@
 -- A statement that drops has at most one refusal, and makes at most one edit.
 use Rattle.std.proofs.Common.{◌≡◌, List, sym, ◌∙◌}
-use Rattle.sql_tree.specs.declared.column.ObjectName.{ObjectName}
+use Rattle.sql_names.specs.declared.column.ObjectName.{ObjectName}
 use Rattle.sql_tree.specs.declared.statement.DropKind.{DropKind}
 use Rattle.sql_tree.specs.declared.statement.DropKind.TheVariants.{Table}
 use Rattle.sql_tree.specs.declared.statement.Statement.{Statement}

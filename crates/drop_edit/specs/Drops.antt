@@ -1,6 +1,6 @@
 -- Statements that drop: their refusals, and what they take.
 use Rattle.std.specs.Prelude.{List, []}
-use Rattle.sql_tree.specs.declared.column.ObjectName.{ObjectName}
+use Rattle.sql_names.specs.declared.column.ObjectName.{ObjectName}
 use Rattle.sql_tree.specs.declared.statement.DropKind.{DropKind}
 use Rattle.sql_tree.specs.declared.statement.DropKind.TheVariants.{Table}
 use Rattle.sql_tree.specs.declared.statement.Statement.{Statement}

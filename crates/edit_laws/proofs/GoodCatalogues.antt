@@ -3,7 +3,7 @@ use Rattle.std.proofs.Common.{◌≡◌, ◌≢◌, ◌⊎◌, inl, inr, ℕ, fa
 use Rattle.std.specs.List.{Contains}
 use Rattle.finite_chains.specs.Chains.{IsWithin, IsChain, IsMonotone}
 use Rattle.finite_chains.proofs.Members.{Contains-nil, Contains-tail, Contains-cases}
-use Rattle.sql_tree.specs.declared.object.Object.{Object}
+use Rattle.sql_names.specs.declared.object.Object.{Object}
 use Rattle.sql_tree.specs.declared.rights.Action.TheVariants as action
 use Rattle.cat_items.specs.declared.need.Need.{Need}
 use Rattle.cat_items.specs.declared.item.Column.{Column}

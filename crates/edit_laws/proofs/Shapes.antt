@@ -2,7 +2,7 @@
 use Rattle.std.proofs.Common.{◌≡◌, ◌⊎◌, inl, inr, ℕ, List, [], ◌∷◌, Some, sym}
 use Rattle.std.specs.List.{Contains}
 use Rattle.finite_chains.proofs.Members.{Contains-nil}
-use Rattle.sql_tree.specs.declared.object.Object.{Object}
+use Rattle.sql_names.specs.declared.object.Object.{Object}
 use Rattle.cat_items.specs.declared.edit.Edit.{Edit}
 use Rattle.cat_items.specs.declared.item.RoleGrant.{RoleGrant}
 use Rattle.cat_items.specs.declared.item.View.{View}

@@ -2,7 +2,7 @@
 
 ghost use Rattle.std.specs.Prelude.{◌≡◌, ◌↔◌, ◌∷◌, [], ℕ, List, All, length, IsTrue, IfSome, IfNone};
 ghost use Rattle.std.specs.Option.{option_copied};
-ghost use Rattle.sql_tree.specs.declared.object.Object.{Object};
+ghost use Rattle.sql_names.specs.declared.object.Object.{Object};
 ghost use Rattle.cat_items.specs.Keys.{object_of, path_in, need_of};
 ghost use Rattle.cat_items.specs.Reach.{Has};
 ghost use Rattle.cat_items.specs.Rights.{path_of, IsAuthorization, IsTable, IsDomain, IsRoutine, IsColumn, IsObject, HasColumn, Stands};

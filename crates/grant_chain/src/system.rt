@@ -2,7 +2,7 @@
 
 ghost use Rattle.std.specs.Prelude.{◌≡◌, ◌↔◌, length, IsTrue, None, slice_get};
 ghost use Rattle.std.specs.Option.{option_copied};
-ghost use Rattle.sql_tree.specs.declared.object.Object.{Object};
+ghost use Rattle.sql_names.specs.declared.object.Object.{Object};
 ghost use Rattle.cat_items.specs.declared.need.Auth.TheVariants.{Named};
 ghost use Rattle.cat_items.specs.Keys.{object_of};
 ghost use Rattle.cat_items.specs.Reach.{Has};

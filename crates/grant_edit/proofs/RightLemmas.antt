@@ -8,7 +8,7 @@ use Rattle.std.specs.Cmp.Lexicographic.{slice_cmp}
 use Rattle.std.specs.FinMap.{nat_cmp-IsAntisymmetric, slice_cmp-IsAntisymmetric}
 use Rattle.std.specs.declared.cmp.Ordering.TheVariants.{Less, Equal, Greater}
 use Rattle.finite_chains.proofs.Members.{Contains-nil, Contains-head}
-use Rattle.sql_tree.specs.Names.{name_cmp-IsAntisymmetric}
+use Rattle.sql_names.specs.Names.{name_cmp-IsAntisymmetric}
 use Rattle.sql_tree.specs.declared.rights.Action.{Action}
 use Rattle.sql_tree.specs.declared.rights.Action.TheVariants as actions
 use Rattle.cat_items.specs.declared.need.Auth.{Auth}

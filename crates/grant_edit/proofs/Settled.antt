@@ -1,6 +1,6 @@
 -- GRANT and REVOKE of privileges have at most one refusal, and make at most one edit.
 use Rattle.std.proofs.Common.{◌≡◌, ℕ, List, ◌∷◌, map, sym, subst, ap, ◌∙◌}
-use Rattle.sql_tree.specs.declared.object.Object.{Object}
+use Rattle.sql_names.specs.declared.object.Object.{Object}
 use Rattle.sql_tree.specs.declared.rights.Grantee.{Grantee}
 use Rattle.sql_tree.specs.declared.rights.Grantee.TheVariants as grantee
 use Rattle.sql_tree.specs.declared.rights.Privilege.{Privilege}

@@ -5,7 +5,7 @@ use Rattle.std.specs.Ordering.{ordering_reverse}
 use Rattle.std.specs.declared.cmp.Ordering.TheVariants.{Equal}
 use Rattle.finite_chains.specs.Chains.{IsWithin}
 use Rattle.finite_chains.proofs.Members.{Contains-nil}
-use Rattle.sql_tree.specs.declared.object.Object.{Object}
+use Rattle.sql_names.specs.declared.object.Object.{Object}
 use Rattle.cat_items.specs.declared.need.Auth.{Auth}
 use Rattle.cat_items.specs.declared.need.Need.{Need}
 use Rattle.cat_items.specs.declared.edit.Edit.{Edit}

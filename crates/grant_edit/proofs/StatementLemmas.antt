@@ -4,7 +4,7 @@ use Rattle.std.specs.List.{Contains}
 use Rattle.std.specs.Result.{IsErrAnd}
 use Rattle.std.specs.declared.result.Result.{Result}
 use Rattle.std.specs.declared.result.Result.TheVariants.{Ok, Err}
-use Rattle.sql_tree.specs.declared.object.Object.{Object}
+use Rattle.sql_names.specs.declared.object.Object.{Object}
 use Rattle.sql_tree.specs.declared.rights.Privileges.{Privileges}
 use Rattle.sql_tree.specs.declared.rights.Privileges.TheVariants.{All, Listed}
 use Rattle.sql_tree.specs.declared.statement.GrantPrivileges.{GrantPrivileges}

@@ -1,7 +1,7 @@
 -- GRANT of privileges: what can be granted, and what is (grant privilege statement, SQL:2003 part 2, 12.2).
 use Rattle.std.specs.Prelude.{◌≡◌, ◌⊎◌, ◌↔◌, ℕ, Bool, true, false, List, [], IsTrue}
 use Rattle.std.specs.List.{Contains}
-use Rattle.sql_tree.specs.declared.object.Object.{Object}
+use Rattle.sql_names.specs.declared.object.Object.{Object}
 use Rattle.sql_tree.specs.declared.rights.Action.{Action}
 use Rattle.sql_tree.specs.declared.rights.Action.TheVariants as actions
 use Rattle.sql_tree.specs.declared.rights.Privileges.{Privileges}

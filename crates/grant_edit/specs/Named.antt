@@ -1,7 +1,7 @@
 -- The privileges that a statement names, and to whom (privileges, SQL:2003 part 2, 12.3).
 use Rattle.std.specs.Prelude.{◌≡◌, ◌⊎◌, ℕ, Bool, false, not, List, [], ◌∷◌, Option, Some, None, map}
 use Rattle.std.specs.List.{Contains, flat_map}
-use Rattle.sql_tree.specs.declared.object.Object.{Object}
+use Rattle.sql_names.specs.declared.object.Object.{Object}
 use Rattle.sql_tree.specs.declared.rights.Action.{Action}
 use Rattle.sql_tree.specs.declared.rights.Action.TheVariants as actions
 use Rattle.sql_tree.specs.declared.rights.Grantee.{Grantee}

@@ -1,6 +1,6 @@
 -- What GRANT and REVOKE of privileges name, and refusals by names that don't stand.
 use Rattle.std.specs.Prelude.{◌≡◌, List, [], ◌∷◌, ◌++◌, Option, Some, None, map}
-use Rattle.sql_tree.specs.declared.object.Object.{Object}
+use Rattle.sql_names.specs.declared.object.Object.{Object}
 use Rattle.sql_tree.specs.declared.rights.Grantee.{Grantee}
 use Rattle.sql_tree.specs.declared.rights.Grantee.TheVariants as grantee
 use Rattle.sql_tree.specs.declared.rights.Privilege.{Privilege}
@@ -8,7 +8,7 @@ use Rattle.sql_tree.specs.declared.rights.Privileges.{Privileges}
 use Rattle.sql_tree.specs.declared.rights.Privileges.TheVariants.{All, Listed}
 use Rattle.sql_tree.specs.declared.rights.TargetKind.{TargetKind}
 use Rattle.sql_tree.specs.declared.rights.TargetKind.TheVariants as kinds
-use Rattle.sql_tree.specs.declared.sort.SqlType.{SqlType}
+use Rattle.sql_names.specs.declared.sort.SqlType.{SqlType}
 use Rattle.cat_items.specs.declared.edit.Refusal.{Refusal}
 use Rattle.cat_items.specs.declared.edit.Refusal.TheVariants.{UnknownName}
 use Rattle.cat_items.specs.declared.item.Item.{Item}

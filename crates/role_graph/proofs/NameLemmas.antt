@@ -14,7 +14,7 @@ use Rattle.std.proofs.lemmas.List.Elements.{Contains-get_or, Contains-append_lef
 use Rattle.finite_chains.proofs.Members.{Contains-nil}
 use Rattle.finite_chains.proofs.StrictOrders.{IsRising-from_pairs}
 use Rattle.finite_chains.specs.StrictOrder.{IsRising}
-use Rattle.sql_tree.specs.Names.{name_cmp-IsAntisymmetric}
+use Rattle.sql_names.specs.Names.{name_cmp-IsAntisymmetric}
 use Rattle.cat_items.specs.declared.need.Auth.TheVariants.{Named}
 use Rattle.cat_items.specs.declared.item.RoleGrant.{RoleGrant}
 use Rattle.cat_items.specs.declared.item.Item.{Item}

@@ -6,8 +6,8 @@ use Rattle.sql_tree.specs.declared.body.Assignment.{Assignment}
 use Rattle.sql_tree.specs.declared.body.InsertSource.{InsertSource}
 use Rattle.sql_tree.specs.declared.expr.Expr.{Expr}
 use Rattle.sql_words.specs.declared.word.Word.{Word}
-use Rattle.sql_words.specs.declared.kind.Kind.{Kind}
-use Rattle.sql_words.specs.declared.kind.Kind.TheVariants as k
+use Rattle.sql_spelling.specs.declared.kind.Kind.{Kind}
+use Rattle.sql_spelling.specs.declared.kind.Kind.TheVariants as k
 use Rattle.sql_phrases.specs.Reading.{peek, sees}
 use Rattle.sql_phrases.specs.Shapes.{Token, Separated, Repeated, Optional, left_out, said}
 use Rattle.sql_phrases.specs.Parsers.{separated}

@@ -1,7 +1,7 @@
 -- What may follow the parts of a table's elements.
 use Rattle.std.proofs.Common.{ℕ}
-use Rattle.sql_words.specs.declared.kind.Kind.{Kind}
-use Rattle.sql_words.specs.declared.kind.Kind.TheVariants as k
+use Rattle.sql_spelling.specs.declared.kind.Kind.{Kind}
+use Rattle.sql_spelling.specs.declared.kind.Kind.TheVariants as k
 
 -- How tightly a word goes on with what stands before it, in the elements of a table, where ON goes on with a REFERENCES.
 abbrev pub continues : Kind → ℕ

@@ -6,8 +6,8 @@ use Rattle.sql_tree.specs.declared.body.Assignment.{Assignment}
 use Rattle.sql_tree.specs.declared.body.InsertSource.{InsertSource}
 use Rattle.sql_tree.specs.declared.expr.Expr.{Expr}
 use Rattle.sql_tree.specs.declared.expr.Query.{Query}
-use Rattle.sql_tree.specs.declared.sort.Default.{Default}
-use Rattle.sql_tree.specs.declared.sort.Param.{Param}
+use Rattle.sql_names.specs.declared.sort.Default.{Default}
+use Rattle.sql_names.specs.declared.sort.Param.{Param}
 use Rattle.sql_tree.specs.declared.table.ColumnConstraint.{ColumnConstraint}
 use Rattle.sql_tree.specs.declared.table.ColumnDefinition.{ColumnDefinition}
 use Rattle.sql_tree.specs.declared.table.ColumnOption.{ColumnOption}
@@ -19,7 +19,7 @@ use Rattle.sql_tree.specs.declared.table.Rule.{Rule}
 use Rattle.sql_tree.specs.declared.table.TableConstraint.{TableConstraint}
 use Rattle.sql_tree.specs.declared.table.TableConstraintKind.{TableConstraintKind}
 use Rattle.sql_tree.specs.declared.table.TableElement.{TableElement}
-use Rattle.sql_words.specs.declared.kind.Kind.TheVariants as k
+use Rattle.sql_spelling.specs.declared.kind.Kind.TheVariants as k
 use Rattle.sql_words.specs.declared.word.Word.{Word}
 use Rattle.sql_phrases.specs.Shapes.{Token, Separated, Optional}
 use Rattle.sql_phrases.specs.NameRules as names

@@ -1,9 +1,9 @@
 -- Parameters: what is read is spelled so, and what is spelled so is read.
 use Rattle.std.proofs.Common.{◌≡◌, ◌<◌, false, List, length, Some, refl, arith, lit<}
-use Rattle.sql_tree.specs.declared.sort.Param.{Param}
-use Rattle.sql_words.specs.Kinds.{is_name, same_kind}
+use Rattle.sql_names.specs.declared.sort.Param.{Param}
+use Rattle.sql_spelling.specs.Kinds.{is_name, same_kind}
 use Rattle.sql_words.specs.declared.word.Word.{Word}
-use Rattle.sql_words.specs.declared.kind.Kind.TheVariants as k
+use Rattle.sql_spelling.specs.declared.kind.Kind.TheVariants as k
 use Rattle.sql_phrases.specs.Reading.{sees}
 use Rattle.sql_phrases.specs.Shapes.{Separated, absent, present}
 use Rattle.sql_phrases.specs.Parsers.{separated}

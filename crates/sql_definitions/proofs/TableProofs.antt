@@ -11,10 +11,10 @@ use Rattle.sql_tree.specs.declared.table.Rule.TheVariants as actions
 use Rattle.sql_tree.specs.declared.table.TableConstraint.{TableConstraint}
 use Rattle.sql_tree.specs.declared.table.TableConstraintKind.{TableConstraintKind}
 use Rattle.sql_tree.specs.declared.table.TableElement.{TableElement}
-use Rattle.sql_words.specs.Kinds.{is_name, same_kind}
+use Rattle.sql_spelling.specs.Kinds.{is_name, same_kind}
 use Rattle.sql_words.specs.declared.word.Word.{Word}
-use Rattle.sql_words.specs.declared.kind.Kind.{Kind}
-use Rattle.sql_words.specs.declared.kind.Kind.TheVariants as k
+use Rattle.sql_spelling.specs.declared.kind.Kind.{Kind}
+use Rattle.sql_spelling.specs.declared.kind.Kind.TheVariants as k
 use Rattle.sql_phrases.specs.Reading.{peek, sees, after}
 use Rattle.sql_phrases.specs.Shapes.{Token, Separated, Repeated, Optional, left_out, said}
 use Rattle.sql_phrases.specs.NameRules.{IsIdentifier, IsColumns, no_columns, columns}

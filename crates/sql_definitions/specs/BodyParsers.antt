@@ -8,8 +8,8 @@ use Rattle.sql_tree.specs.declared.body.Assignment.{Assignment}
 use Rattle.sql_tree.specs.declared.body.InsertSource.{InsertSource}
 use Rattle.sql_tree.specs.declared.body.InsertSource.TheVariants as sources
 use Rattle.sql_tree.specs.declared.expr.Expr.{Expr}
-use Rattle.sql_words.specs.declared.kind.Kind.{Kind}
-use Rattle.sql_words.specs.declared.kind.Kind.TheVariants as k
+use Rattle.sql_spelling.specs.declared.kind.Kind.{Kind}
+use Rattle.sql_spelling.specs.declared.kind.Kind.TheVariants as k
 use Rattle.sql_phrases.specs.Reading.{peek}
 use Rattle.sql_phrases.specs.Parsers.{Parser, ◌>>=◌, ◌>>◌, ◌<$>◌, pure, refuse, skip, eat, expect, separated, repeated, optional}
 use Rattle.sql_phrases.specs.NameParsers.{identifier, object_name, columns}

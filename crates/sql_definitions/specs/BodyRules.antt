@@ -7,10 +7,10 @@ use Rattle.sql_tree.specs.declared.body.AssignedValue.TheVariants as values
 use Rattle.sql_tree.specs.declared.body.Assignment.{Assignment}
 use Rattle.sql_tree.specs.declared.body.InsertSource.{InsertSource}
 use Rattle.sql_tree.specs.declared.body.InsertSource.TheVariants as sources
-use Rattle.sql_tree.specs.declared.column.ObjectName.{ObjectName}
+use Rattle.sql_names.specs.declared.column.ObjectName.{ObjectName}
 use Rattle.sql_tree.specs.declared.expr.Expr.{Expr}
 use Rattle.sql_tree.specs.declared.expr.Query.{Query}
-use Rattle.sql_words.specs.declared.kind.Kind.TheVariants as k
+use Rattle.sql_spelling.specs.declared.kind.Kind.TheVariants as k
 use Rattle.sql_words.specs.declared.word.Word.{Word}
 use Rattle.sql_phrases.specs.Shapes.{Token, Separated, Repeated, Optional}
 use Rattle.sql_phrases.specs.NameRules.{IsIdentifier, IsObjectName, IsColumns}

@@ -1,7 +1,7 @@
 -- Reading parameters.
 use Rattle.std.specs.Prelude.{List, [], if◌then◌else◌}
-use Rattle.sql_tree.specs.declared.sort.Param.{Param}
-use Rattle.sql_words.specs.declared.kind.Kind.TheVariants as k
+use Rattle.sql_names.specs.declared.sort.Param.{Param}
+use Rattle.sql_spelling.specs.declared.kind.Kind.TheVariants as k
 use Rattle.sql_phrases.specs.Parsers.{Parser, ◌>>=◌, ◌>>◌, pure, eat, expect, separated}
 use Rattle.sql_phrases.specs.NameParsers.{identifier}
 use Rattle.sql_phrases.specs.TypeParsers.{sql_type}

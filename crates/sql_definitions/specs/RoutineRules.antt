@@ -1,8 +1,8 @@
 -- Parameters of routines, and their language.
 use Rattle.std.specs.Prelude.{ℕ, ◌-◌, Bool, List, []}
-use Rattle.sql_tree.specs.declared.sort.Param.{Param}
-use Rattle.sql_tree.specs.declared.sort.SqlType.{SqlType}
-use Rattle.sql_words.specs.declared.kind.Kind.TheVariants as k
+use Rattle.sql_names.specs.declared.sort.Param.{Param}
+use Rattle.sql_names.specs.declared.sort.SqlType.{SqlType}
+use Rattle.sql_spelling.specs.declared.kind.Kind.TheVariants as k
 use Rattle.sql_words.specs.declared.word.Word.{Word}
 use Rattle.sql_phrases.specs.Shapes.{Token, Separated, Marked}
 use Rattle.sql_phrases.specs.NameRules.{IsIdentifier}

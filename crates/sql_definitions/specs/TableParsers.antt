@@ -17,8 +17,8 @@ use Rattle.sql_tree.specs.declared.table.TableConstraintKind.{TableConstraintKin
 use Rattle.sql_tree.specs.declared.table.TableConstraintKind.TheVariants as kinds
 use Rattle.sql_tree.specs.declared.table.TableElement.{TableElement}
 use Rattle.sql_tree.specs.declared.table.TableElement.TheVariants as elements
-use Rattle.sql_words.specs.declared.kind.Kind.{Kind}
-use Rattle.sql_words.specs.declared.kind.Kind.TheVariants as k
+use Rattle.sql_spelling.specs.declared.kind.Kind.{Kind}
+use Rattle.sql_spelling.specs.declared.kind.Kind.TheVariants as k
 use Rattle.sql_phrases.specs.Reading.{peek}
 use Rattle.sql_phrases.specs.Parsers.{Parser, ◌>>=◌, ◌>>◌, ◌<$>◌, pure, refuse, skip, eat, expect, separated, repeated}
 use Rattle.sql_phrases.specs.NameParsers.{identifier, identifiers, object_name, sees_name}

@@ -1,9 +1,9 @@
 -- Tables: columns and constraints. Of each rule that may open brackets, m says how many of them may be open at once.
 use Rattle.std.specs.Prelude.{◌≡◌, ℕ, Bool, true, false, ◌&&◌, not, List, [], ◌∷◌, Option}
-use Rattle.sql_tree.specs.declared.column.ObjectName.{ObjectName}
+use Rattle.sql_names.specs.declared.column.ObjectName.{ObjectName}
 use Rattle.sql_tree.specs.declared.expr.Expr.{Expr}
-use Rattle.sql_tree.specs.declared.sort.Default.{Default}
-use Rattle.sql_tree.specs.declared.sort.SqlType.{SqlType}
+use Rattle.sql_names.specs.declared.sort.Default.{Default}
+use Rattle.sql_names.specs.declared.sort.SqlType.{SqlType}
 use Rattle.sql_tree.specs.declared.table.ColumnConstraint.{ColumnConstraint}
 use Rattle.sql_tree.specs.declared.table.ColumnConstraint.TheVariants as constraints
 use Rattle.sql_tree.specs.declared.table.ColumnDefinition.{ColumnDefinition}
@@ -21,7 +21,7 @@ use Rattle.sql_tree.specs.declared.table.TableConstraintKind.{TableConstraintKin
 use Rattle.sql_tree.specs.declared.table.TableConstraintKind.TheVariants as kinds
 use Rattle.sql_tree.specs.declared.table.TableElement.{TableElement}
 use Rattle.sql_tree.specs.declared.table.TableElement.TheVariants as elements
-use Rattle.sql_words.specs.declared.kind.Kind.TheVariants as k
+use Rattle.sql_spelling.specs.declared.kind.Kind.TheVariants as k
 use Rattle.sql_words.specs.declared.word.Word.{Word}
 use Rattle.sql_phrases.specs.Shapes.{Token, Separated, Repeated, Optional}
 use Rattle.sql_phrases.specs.NameRules.{IsIdentifier, IsObjectName, IsIdentifiers, IsColumns}

@@ -1,7 +1,7 @@
 //! Bodies of procedures.
 
 ghost use Rattle.std.specs.Prelude.{◌≡◌, false};
-ghost use Rattle.sql_words.specs.declared.kind.Kind.TheVariants as k;
+ghost use Rattle.sql_spelling.specs.declared.kind.Kind.TheVariants as k;
 ghost use Rattle.sql_definitions.specs.BodyParsers as spec;
 ghost use Rattle.sql_expressions.specs.ExpressionParsers.{expr_within};
 ghost use Rattle.sql_phrases.specs.Parsers.{Reads, separated};

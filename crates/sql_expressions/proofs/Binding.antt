@@ -2,10 +2,10 @@
 use Rattle.std.proofs.Common.{◌≡◌, ℕ, Bool, true, false, List, refl, arith}
 use Rattle.std.specs.Prelude.{nat_lt, ◌||◌, if◌then◌else◌}
 use denote.Enum.Bare.{sameb}
-use Rattle.sql_words.specs.Kinds.{is_name, same_kind, number_of}
-use Rattle.sql_words.specs.contracts.kind.Kind.{the_type}
-use Rattle.sql_words.specs.declared.kind.Kind.{Kind}
-use Rattle.sql_words.specs.declared.kind.Kind.TheVariants as k
+use Rattle.sql_spelling.specs.Kinds.{is_name, same_kind, number_of}
+use Rattle.sql_spelling.specs.contracts.kind.Kind.{the_type}
+use Rattle.sql_spelling.specs.declared.kind.Kind.{Kind}
+use Rattle.sql_spelling.specs.declared.kind.Kind.TheVariants as k
 use Rattle.sql_words.specs.declared.word.Word.{Word}
 use Rattle.sql_phrases.specs.Reading.{peek}
 use Rattle.sql_phrases.specs.NameParsers.{sees_name}

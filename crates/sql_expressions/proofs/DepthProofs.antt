@@ -1,9 +1,9 @@
 -- The brackets of expressions and queries are counted: as many may be open as are open at one word.
 use Rattle.std.proofs.Common.{◌≡◌, ◌<◌, ◌-◌, ◌++◌, ℕ, zero, suc, Bool, List, Option, refl, sym, ap, subst, arith}
 use Rattle.std.proofs.lemmas.List.{append_cancel_right}
-use Rattle.sql_tree.specs.declared.column.ObjectName.{ObjectName}
-use Rattle.sql_tree.specs.declared.column.Reference.{Reference}
-use Rattle.sql_tree.specs.declared.column.TableReference.{TableReference}
+use Rattle.sql_names.specs.declared.column.ObjectName.{ObjectName}
+use Rattle.sql_names.specs.declared.column.Reference.{Reference}
+use Rattle.sql_names.specs.declared.column.TableReference.{TableReference}
 use Rattle.sql_tree.specs.declared.expr.Added.{Added}
 use Rattle.sql_tree.specs.declared.expr.Additive.{Additive}
 use Rattle.sql_tree.specs.declared.expr.Aggregate.{Aggregate}
@@ -28,9 +28,9 @@ use Rattle.sql_tree.specs.declared.expr.SetOperator.{SetOperator}
 use Rattle.sql_tree.specs.declared.expr.Sum.{Sum}
 use Rattle.sql_tree.specs.declared.expr.Tail.{Tail}
 use Rattle.sql_tree.specs.declared.expr.Term.{Term}
-use Rattle.sql_tree.specs.declared.sort.Special.{Special}
-use Rattle.sql_tree.specs.declared.sort.SqlType.{SqlType}
-use Rattle.sql_words.specs.declared.kind.Kind.TheVariants as k
+use Rattle.sql_names.specs.declared.sort.Special.{Special}
+use Rattle.sql_names.specs.declared.sort.SqlType.{SqlType}
+use Rattle.sql_spelling.specs.declared.kind.Kind.TheVariants as k
 use Rattle.sql_words.specs.declared.word.Word.{Word}
 use Rattle.sql_phrases.specs.Shapes.{Spelled, Token, Separated, Optional}
 use Rattle.sql_phrases.specs.NameRules.{IsObjectName}

@@ -2,7 +2,7 @@
 use Rattle.std.proofs.Common.{◌≡◌, ℕ, ◌<◌, ◌≤◌, ◌-◌, Bool, true, false, List, length, Option, Some, None, refl, ap, subst, arith, lit<, lit≤}
 use Rattle.std.specs.Prelude.{◌==◌, option_map, if◌then◌else◌}
 use Rattle.std.proofs.lemmas.Bool.{ne_eqb, eqb-false}
-use Rattle.sql_tree.specs.declared.column.ObjectName.{ObjectName}
+use Rattle.sql_names.specs.declared.column.ObjectName.{ObjectName}
 use Rattle.sql_tree.specs.declared.expr.Added.{Added}
 use Rattle.sql_tree.specs.declared.expr.Additive.{Additive}
 use Rattle.sql_tree.specs.declared.expr.Additive.TheVariants as additives
@@ -25,11 +25,11 @@ use Rattle.sql_tree.specs.declared.expr.Sum.{Sum}
 use Rattle.sql_tree.specs.declared.expr.Tail.{Tail}
 use Rattle.sql_tree.specs.declared.expr.Tail.TheVariants as tails
 use Rattle.sql_tree.specs.declared.expr.Term.{Term}
-use Rattle.sql_tree.specs.declared.sort.Special.{Special}
-use Rattle.sql_words.specs.Kinds.{is_name, same_kind}
+use Rattle.sql_names.specs.declared.sort.Special.{Special}
+use Rattle.sql_spelling.specs.Kinds.{is_name, same_kind}
 use Rattle.sql_words.specs.declared.word.Word.{Word}
-use Rattle.sql_words.specs.declared.kind.Kind.{Kind}
-use Rattle.sql_words.specs.declared.kind.Kind.TheVariants as k
+use Rattle.sql_spelling.specs.declared.kind.Kind.{Kind}
+use Rattle.sql_spelling.specs.declared.kind.Kind.TheVariants as k
 use Rattle.sql_phrases.specs.Reading.{peek, next, sees, after}
 use Rattle.sql_phrases.specs.Shapes.{Spelled, Token, Separated, Marked, absent, present}
 use Rattle.sql_phrases.specs.NameRules.{IsObjectName}

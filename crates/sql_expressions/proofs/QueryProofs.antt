@@ -2,9 +2,9 @@
 use Rattle.std.proofs.Common.{◌≡◌, ℕ, ◌<◌, ◌≤◌, Bool, true, false, List, length, Option, Some, None, refl, subst, arith, lit<, lit≤}
 use Rattle.std.proofs.lemmas.Bool.{and_parts}
 use denote.Enum.Bare.{sameb}
-use Rattle.sql_tree.specs.declared.column.ObjectName.{ObjectName}
-use Rattle.sql_tree.specs.declared.column.Reference.{Reference}
-use Rattle.sql_tree.specs.declared.column.TableReference.{TableReference}
+use Rattle.sql_names.specs.declared.column.ObjectName.{ObjectName}
+use Rattle.sql_names.specs.declared.column.Reference.{Reference}
+use Rattle.sql_names.specs.declared.column.TableReference.{TableReference}
 use Rattle.sql_tree.specs.declared.expr.Chain.{Chain}
 use Rattle.sql_tree.specs.declared.expr.Expr.{Expr}
 use Rattle.sql_tree.specs.declared.expr.Further.{Further}
@@ -15,11 +15,11 @@ use Rattle.sql_tree.specs.declared.expr.SelectItem.{SelectItem}
 use Rattle.sql_tree.specs.declared.expr.SelectList.{SelectList}
 use Rattle.sql_tree.specs.declared.expr.SetOperator.{SetOperator}
 use Rattle.sql_tree.specs.declared.expr.SetOperator.TheVariants as operators
-use Rattle.sql_words.specs.Kinds.{is_name, same_kind}
-use Rattle.sql_words.specs.contracts.kind.Kind.{the_type}
+use Rattle.sql_spelling.specs.Kinds.{is_name, same_kind}
+use Rattle.sql_spelling.specs.contracts.kind.Kind.{the_type}
 use Rattle.sql_words.specs.declared.word.Word.{Word}
-use Rattle.sql_words.specs.declared.kind.Kind.{Kind}
-use Rattle.sql_words.specs.declared.kind.Kind.TheVariants as k
+use Rattle.sql_spelling.specs.declared.kind.Kind.{Kind}
+use Rattle.sql_spelling.specs.declared.kind.Kind.TheVariants as k
 use Rattle.sql_phrases.specs.Reading.{peek, next, spelling, sees, after}
 use Rattle.sql_phrases.specs.Shapes.{Spelled, Token, Separated, Repeated, Optional, left_out, said, Marked, absent, present}
 use Rattle.sql_phrases.specs.NameRules.{IsIdentifier, IsObjectName}

@@ -1,8 +1,8 @@
 -- How many brackets are open in words. CASE and BEGIN open one as well, which END closes.
 use Rattle.std.specs.Prelude.{◌-◌, max, ℕ, suc, List, [], ◌∷◌}
 use Rattle.sql_words.specs.Kinds.{kind_of}
-use Rattle.sql_words.specs.declared.kind.Kind.{Kind}
-use Rattle.sql_words.specs.declared.kind.Kind.TheVariants as k
+use Rattle.sql_spelling.specs.declared.kind.Kind.{Kind}
+use Rattle.sql_spelling.specs.declared.kind.Kind.TheVariants as k
 use Rattle.sql_words.specs.declared.word.Word.{Word}
 
 -- how many are open behind a word of this kind, where this many are open before it

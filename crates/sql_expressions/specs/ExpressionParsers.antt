@@ -23,8 +23,8 @@ use Rattle.sql_tree.specs.declared.expr.Sum.{Sum, roll-Sum}
 use Rattle.sql_tree.specs.declared.expr.Tail.{Tail}
 use Rattle.sql_tree.specs.declared.expr.Tail.TheVariants as tails
 use Rattle.sql_tree.specs.declared.expr.Term.{Term, roll-Term}
-use Rattle.sql_words.specs.declared.kind.Kind.{Kind}
-use Rattle.sql_words.specs.declared.kind.Kind.TheVariants as k
+use Rattle.sql_spelling.specs.declared.kind.Kind.{Kind}
+use Rattle.sql_spelling.specs.declared.kind.Kind.TheVariants as k
 use Rattle.sql_phrases.specs.Reading.{peek, sees}
 use Rattle.sql_phrases.specs.Parsers.{Parser, ◌>>=◌, ◌>>◌, ◌<$>◌, pure, refuse, skip, take_text, eat, expect, opening, separated, repeated, optional}
 use Rattle.sql_phrases.specs.NameParsers.{object_name, sees_name}

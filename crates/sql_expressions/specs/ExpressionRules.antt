@@ -1,7 +1,7 @@
 -- Expressions. Each rule relates what is spelled, the words that begin with it, and the words after it.
 use Rattle.std.specs.Prelude.{◌≡◌, ◌<◌, ◌-◌, ℕ, zero, suc, Bool, true, List, [], Option, Some, None}
-use Rattle.sql_tree.specs.declared.column.ObjectName.{ObjectName}
-use Rattle.sql_tree.specs.declared.column.Reference.{Reference}
+use Rattle.sql_names.specs.declared.column.ObjectName.{ObjectName}
+use Rattle.sql_names.specs.declared.column.Reference.{Reference}
 use Rattle.sql_tree.specs.declared.expr.Added.{Added, roll-Added}
 use Rattle.sql_tree.specs.declared.expr.Additive.{Additive}
 use Rattle.sql_tree.specs.declared.expr.Additive.TheVariants as additives
@@ -25,9 +25,9 @@ use Rattle.sql_tree.specs.declared.expr.Sum.{Sum, roll-Sum}
 use Rattle.sql_tree.specs.declared.expr.Tail.{Tail}
 use Rattle.sql_tree.specs.declared.expr.Tail.TheVariants as tails
 use Rattle.sql_tree.specs.declared.expr.Term.{Term, roll-Term}
-use Rattle.sql_tree.specs.declared.sort.Special.{Special}
-use Rattle.sql_tree.specs.declared.sort.SqlType.{SqlType}
-use Rattle.sql_words.specs.declared.kind.Kind.TheVariants as k
+use Rattle.sql_names.specs.declared.sort.Special.{Special}
+use Rattle.sql_names.specs.declared.sort.SqlType.{SqlType}
+use Rattle.sql_spelling.specs.declared.kind.Kind.TheVariants as k
 use Rattle.sql_words.specs.declared.word.Word.{Word}
 use Rattle.sql_phrases.specs.NameRules.{IsObjectName}
 use Rattle.sql_phrases.specs.Shapes.{Spelled, Token, Spells, Separated, Repeated, Optional, Marked}

@@ -1,9 +1,9 @@
 -- Queries. Each rule relates what is spelled, the words that begin with it, and the words after it.
 use Rattle.std.specs.Prelude.{ℕ, Bool, true, false, List, [], Option, Some, None}
-use Rattle.sql_tree.specs.declared.column.ObjectName.{ObjectName}
-use Rattle.sql_tree.specs.declared.column.Reference.{Reference}
-use Rattle.sql_tree.specs.declared.column.Reference.TheVariants as references
-use Rattle.sql_tree.specs.declared.column.TableReference.{TableReference}
+use Rattle.sql_names.specs.declared.column.ObjectName.{ObjectName}
+use Rattle.sql_names.specs.declared.column.Reference.{Reference}
+use Rattle.sql_names.specs.declared.column.Reference.TheVariants as references
+use Rattle.sql_names.specs.declared.column.TableReference.{TableReference}
 use Rattle.sql_tree.specs.declared.expr.Chain.{Chain, roll-Chain}
 use Rattle.sql_tree.specs.declared.expr.Expr.{Expr}
 use Rattle.sql_tree.specs.declared.expr.Further.{Further, roll-Further}
@@ -17,7 +17,7 @@ use Rattle.sql_tree.specs.declared.expr.SelectList.{SelectList}
 use Rattle.sql_tree.specs.declared.expr.SelectList.TheVariants as lists
 use Rattle.sql_tree.specs.declared.expr.SetOperator.{SetOperator}
 use Rattle.sql_tree.specs.declared.expr.SetOperator.TheVariants as operators
-use Rattle.sql_words.specs.declared.kind.Kind.TheVariants as k
+use Rattle.sql_spelling.specs.declared.kind.Kind.TheVariants as k
 use Rattle.sql_words.specs.declared.word.Word.{Word}
 use Rattle.sql_phrases.specs.NameRules.{IsIdentifier, IsObjectName}
 use Rattle.sql_phrases.specs.Shapes.{Spelled, Token, Separated, Repeated, Optional, Marked}

@@ -1,7 +1,7 @@
 //! Sums, tests and conditions.
 
 ghost use Rattle.std.specs.Prelude.{◌≡◌};
-ghost use Rattle.sql_words.specs.declared.kind.Kind.TheVariants as k;
+ghost use Rattle.sql_spelling.specs.declared.kind.Kind.TheVariants as k;
 ghost use Rattle.sql_expressions.specs.ExpressionParsers as spec;
 ghost use Rattle.sql_expressions.specs.ExpressionParsers.{expr_within};
 ghost use Rattle.sql_expressions.specs.Nests.{Nests};
@@ -11,7 +11,7 @@ use crate::grammar::Grammar;
 use sql_phrases::{GrammarError, Reader};
 use sql_tree::{
     Added, Additive, Boxed, Comparison, Conjunction, Expr, Factor, Items, Multiplicative,
-    Multiplied, Negation, Predicate, Sum, Tail, Term,
+    Multiplied, Negation, Predicate, Shared, Sum, Tail, Term,
 };
 use sql_words::Kind;
 use std::alloc::Global;
@@ -293,7 +293,9 @@ impl<F: Fn(Global, &mut Reader<'_>, usize, bool) -> Result<Expr, GrammarError>> 
         ensures { Reads (spec.expr self.now.value (expr_within self.now.value self.now.depth) self.now.depth words.old) result words.new }
     {
         let any = self.conjunctions(words)?;
-        Ok(Expr { any })
+        Ok(Expr {
+            any: Shared::new(self.alloc, any)?,
+        })
     }
 }
 

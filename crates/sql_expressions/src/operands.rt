@@ -1,7 +1,7 @@
 //! What stands between operators.
 
 ghost use Rattle.std.specs.Prelude.{◌≡◌};
-ghost use Rattle.sql_words.specs.declared.kind.Kind.TheVariants as k;
+ghost use Rattle.sql_spelling.specs.declared.kind.Kind.TheVariants as k;
 ghost use Rattle.sql_expressions.specs.ExpressionParsers as spec;
 ghost use Rattle.sql_expressions.specs.ExpressionParsers.{expr_within};
 ghost use Rattle.sql_expressions.specs.Nests.{Nests};

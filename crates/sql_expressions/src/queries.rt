@@ -1,7 +1,7 @@
 //! Queries.
 
 ghost use Rattle.std.specs.Prelude.{◌≡◌, Some};
-ghost use Rattle.sql_words.specs.declared.kind.Kind.TheVariants as k;
+ghost use Rattle.sql_spelling.specs.declared.kind.Kind.TheVariants as k;
 ghost use Rattle.sql_expressions.specs.ExpressionParsers.{expr_within};
 ghost use Rattle.sql_expressions.specs.Nests.{Nests};
 ghost use Rattle.sql_expressions.specs.QueryParsers as spec;
@@ -11,7 +11,7 @@ use crate::grammar::Grammar;
 use sql_phrases::{GrammarError, Reader, identifier, object_name, sees_name};
 use sql_tree::{
     Chain, Expr, Further, Items, Join, Name, Object, ObjectName, Query, Reference, Select,
-    SelectItem, SelectList, SetOperator, TableReference,
+    SelectItem, SelectList, SetOperator, Shared, TableReference,
 };
 use sql_words::{Kind, same_kind};
 use std::alloc::Global;
@@ -336,6 +336,9 @@ impl<F: Fn(Global, &mut Reader<'_>, usize, bool) -> Result<Expr, GrammarError>> 
     {
         let first = self.select(words)?;
         let others = self.furthers(words)?;
-        Ok(Query { first, others })
+        Ok(Query {
+            first: Shared::new(self.alloc, first)?,
+            others: Shared::new(self.alloc, others)?,
+        })
     }
 }

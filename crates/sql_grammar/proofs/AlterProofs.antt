@@ -2,9 +2,9 @@
 use Rattle.std.proofs.Common.{◌≡◌, ℕ, false, List, Some, refl, lit≤}
 use Rattle.sql_tree.specs.declared.statement.AlterDomainAction.{AlterDomainAction}
 use Rattle.sql_tree.specs.declared.statement.AlterTableAction.{AlterTableAction}
-use Rattle.sql_words.specs.Kinds.{is_name, same_kind}
+use Rattle.sql_spelling.specs.Kinds.{is_name, same_kind}
 use Rattle.sql_words.specs.declared.word.Word.{Word}
-use Rattle.sql_words.specs.declared.kind.Kind.TheVariants as k
+use Rattle.sql_spelling.specs.declared.kind.Kind.TheVariants as k
 use Rattle.sql_phrases.specs.Reading.{sees, after}
 use Rattle.sql_phrases.specs.Shapes.{absent, present}
 use Rattle.sql_grammar.specs.AlterRules.{IsColumnName, column_name, IsAlterTableAction, add_column, add_constraint, set_default, drop_default, drop_column, drop_constraint, IsAlterDomainAction, set_domain_default, drop_domain_default, add_domain_check, drop_domain_constraint}

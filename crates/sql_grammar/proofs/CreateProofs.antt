@@ -3,18 +3,18 @@ use Rattle.std.proofs.Common.{◌≡◌, ℕ, ◌<◌, Bool, true, false, List, 
 use Rattle.sql_tree.specs.declared.body.Act.{Act}
 use Rattle.sql_tree.specs.declared.body.Body.TheVariants as bodies
 use Rattle.sql_tree.specs.declared.body.Security.TheVariants.{Definer}
-use Rattle.sql_tree.specs.declared.column.ObjectName.{ObjectName}
+use Rattle.sql_names.specs.declared.column.ObjectName.{ObjectName}
 use Rattle.sql_tree.specs.declared.expr.Expr.{Expr}
 use Rattle.sql_tree.specs.declared.expr.Query.{Query}
-use Rattle.sql_tree.specs.declared.sort.Default.{Default}
-use Rattle.sql_tree.specs.declared.sort.Param.{Param}
-use Rattle.sql_tree.specs.declared.sort.SqlType.{SqlType}
+use Rattle.sql_names.specs.declared.sort.Default.{Default}
+use Rattle.sql_names.specs.declared.sort.Param.{Param}
+use Rattle.sql_names.specs.declared.sort.SqlType.{SqlType}
 use Rattle.sql_tree.specs.declared.statement.Statement.TheVariants as statements
 use Rattle.sql_tree.specs.declared.table.DomainCheck.{DomainCheck}
 use Rattle.sql_tree.specs.declared.table.TableElement.{TableElement}
 use Rattle.sql_words.specs.declared.word.Word.{Word}
-use Rattle.sql_words.specs.declared.kind.Kind.{Kind}
-use Rattle.sql_words.specs.declared.kind.Kind.TheVariants as k
+use Rattle.sql_spelling.specs.declared.kind.Kind.{Kind}
+use Rattle.sql_spelling.specs.declared.kind.Kind.TheVariants as k
 use Rattle.sql_phrases.specs.Reading.{peek, sees, after}
 use Rattle.sql_phrases.specs.Shapes.{Token, Repeated, no_more, again, Optional, left_out, said, Marked, absent, present}
 use Rattle.sql_phrases.specs.NameRules.{IsObjectName, IsColumns, no_columns, columns}

@@ -4,9 +4,9 @@ use Rattle.sql_tree.specs.declared.statement.InfoColumns.{InfoColumns}
 use Rattle.sql_tree.specs.declared.statement.InfoQuery.{InfoQuery}
 use Rattle.sql_tree.specs.declared.statement.InfoTest.{InfoTest}
 use Rattle.sql_tree.specs.declared.statement.InfoValue.{InfoValue}
-use Rattle.sql_words.specs.Kinds.{is_name, same_kind}
+use Rattle.sql_spelling.specs.Kinds.{is_name, same_kind}
 use Rattle.sql_words.specs.declared.word.Word.{Word}
-use Rattle.sql_words.specs.declared.kind.Kind.TheVariants as k
+use Rattle.sql_spelling.specs.declared.kind.Kind.TheVariants as k
 use Rattle.sql_phrases.specs.Reading.{peek, next, sees, after}
 use Rattle.sql_phrases.specs.Shapes.{Token, Separated}
 use Rattle.sql_grammar.specs.InformationRules.{IsInfoValue, literal, number, IsInfoTest, equals, is_null, IsInfoTests, no_tests, tests_after, IsInfoColumns, all_columns, named_columns, IsInfoQuery, info_query}

@@ -1,7 +1,7 @@
 -- Privileges, their targets, grantees and grantors: what is read is spelled so, and what is spelled so is read.
 use Rattle.std.proofs.Common.{◌≡◌, ℕ, ◌<◌, Bool, true, false, List, [], ◌∷◌, length, Option, Some, None, refl, ap, subst, arith, lit<, lit≤}
 use denote.Enum.Bare.{sameb, true_same}
-use Rattle.sql_tree.specs.declared.column.ObjectName.{ObjectName}
+use Rattle.sql_names.specs.declared.column.ObjectName.{ObjectName}
 use Rattle.sql_tree.specs.declared.rights.Grantee.{Grantee}
 use Rattle.sql_tree.specs.declared.rights.Grantor.{Grantor}
 use Rattle.sql_tree.specs.declared.rights.Privilege.{Privilege}
@@ -10,11 +10,12 @@ use Rattle.sql_tree.specs.declared.rights.Target.{Target}
 use Rattle.sql_tree.specs.declared.rights.TargetKind.{TargetKind}
 use Rattle.sql_tree.specs.declared.rights.TargetKind.TheVariants as kinds
 use Rattle.sql_tree.specs.declared.statement.Behaviour.{Behaviour}
-use Rattle.sql_words.specs.Kinds.{kind_of, is_name, same_kind}
-use Rattle.sql_words.specs.contracts.kind.Kind.{the_type}
+use Rattle.sql_spelling.specs.Kinds.{is_name, same_kind}
+use Rattle.sql_words.specs.Kinds.{kind_of}
+use Rattle.sql_spelling.specs.contracts.kind.Kind.{the_type}
 use Rattle.sql_words.specs.declared.word.Word.{Word}
-use Rattle.sql_words.specs.declared.kind.Kind.{Kind}
-use Rattle.sql_words.specs.declared.kind.Kind.TheVariants as k
+use Rattle.sql_spelling.specs.declared.kind.Kind.{Kind}
+use Rattle.sql_spelling.specs.declared.kind.Kind.TheVariants as k
 use Rattle.sql_phrases.specs.Reading.{peek, next, sees}
 use Rattle.sql_phrases.specs.Shapes.{Token, token, Separated, one, more}
 use Rattle.sql_phrases.specs.NameRules.{identifier, IsObjectName, unqualified, qualified, IsIdentifiers}

@@ -1,13 +1,13 @@
 -- The brackets of statements are counted: as many may be open as are open at one word.
 use Rattle.std.proofs.Common.{◌≡◌, ◌<◌, ◌≤◌, ◌-◌, ◌+◌, ℕ, suc, Bool, List, [], Option, refl, ap, ◌∙◌, arith}
 use Rattle.std.proofs.lemmas.List.{append-nil}
-use Rattle.sql_tree.specs.declared.column.ObjectName.{ObjectName}
+use Rattle.sql_names.specs.declared.column.ObjectName.{ObjectName}
 use Rattle.sql_tree.specs.declared.rights.Grantee.{Grantee}
 use Rattle.sql_tree.specs.declared.rights.Grantor.{Grantor}
 use Rattle.sql_tree.specs.declared.rights.Privilege.{Privilege}
 use Rattle.sql_tree.specs.declared.rights.Privileges.{Privileges}
 use Rattle.sql_tree.specs.declared.rights.Target.{Target}
-use Rattle.sql_tree.specs.declared.sort.Default.{Default}
+use Rattle.sql_names.specs.declared.sort.Default.{Default}
 use Rattle.sql_tree.specs.declared.statement.AlterDomainAction.{AlterDomainAction}
 use Rattle.sql_tree.specs.declared.statement.AlterTableAction.{AlterTableAction}
 use Rattle.sql_tree.specs.declared.statement.Behaviour.{Behaviour}
@@ -19,8 +19,8 @@ use Rattle.sql_tree.specs.declared.statement.InfoValue.{InfoValue}
 use Rattle.sql_tree.specs.declared.statement.RoleChoice.{RoleChoice}
 use Rattle.sql_tree.specs.declared.statement.SchemaNameClause.{SchemaNameClause}
 use Rattle.sql_tree.specs.declared.statement.Statement.{Statement}
-use Rattle.sql_words.specs.declared.kind.Kind.{Kind}
-use Rattle.sql_words.specs.declared.kind.Kind.TheVariants as k
+use Rattle.sql_spelling.specs.declared.kind.Kind.{Kind}
+use Rattle.sql_spelling.specs.declared.kind.Kind.TheVariants as k
 use Rattle.sql_words.specs.declared.word.Word.{Word}
 use Rattle.sql_phrases.specs.Shapes.{Token, Separated, Optional}
 use Rattle.sql_phrases.specs.NameRules as names

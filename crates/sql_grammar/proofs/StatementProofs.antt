@@ -8,10 +8,10 @@ use Rattle.sql_tree.specs.declared.statement.DropKind.{DropKind}
 use Rattle.sql_tree.specs.declared.statement.RoleChoice.{RoleChoice}
 use Rattle.sql_tree.specs.declared.statement.SchemaNameClause.{SchemaNameClause}
 use Rattle.sql_tree.specs.declared.statement.Statement.{Statement}
-use Rattle.sql_words.specs.Kinds.{is_name, same_kind}
+use Rattle.sql_spelling.specs.Kinds.{is_name, same_kind}
 use Rattle.sql_words.specs.declared.word.Word.{Word}
-use Rattle.sql_words.specs.declared.kind.Kind.{Kind}
-use Rattle.sql_words.specs.declared.kind.Kind.TheVariants as k
+use Rattle.sql_spelling.specs.declared.kind.Kind.{Kind}
+use Rattle.sql_spelling.specs.declared.kind.Kind.TheVariants as k
 use Rattle.sql_phrases.specs.Reading.{peek, next, sees}
 use Rattle.sql_phrases.specs.Shapes.{Token, token}
 use Rattle.sql_phrases.specs.NameRules.{IsIdentifier, IsLiteralName}

@@ -1,11 +1,11 @@
 -- Reading ALTER TABLE and ALTER DOMAIN.
 use Rattle.std.specs.Prelude.{ℕ, List, if◌then◌else◌}
-use Rattle.sql_tree.specs.declared.sort.Default.{Default}
+use Rattle.sql_names.specs.declared.sort.Default.{Default}
 use Rattle.sql_tree.specs.declared.statement.AlterDomainAction.{AlterDomainAction}
 use Rattle.sql_tree.specs.declared.statement.AlterDomainAction.TheVariants as domains
 use Rattle.sql_tree.specs.declared.statement.AlterTableAction.{AlterTableAction}
 use Rattle.sql_tree.specs.declared.statement.AlterTableAction.TheVariants as tables
-use Rattle.sql_words.specs.declared.kind.Kind.TheVariants as k
+use Rattle.sql_spelling.specs.declared.kind.Kind.TheVariants as k
 use Rattle.sql_phrases.specs.Parsers.{Parser, ◌>>=◌, ◌>>◌, ◌<$>◌, pure, eat, expect}
 use Rattle.sql_phrases.specs.NameParsers.{identifier, sees_name}
 use Rattle.sql_grammar.specs.RightsParsers.{behaviour}

@@ -1,6 +1,6 @@
 -- ALTER TABLE and ALTER DOMAIN.
 use Rattle.std.specs.Prelude.{ℕ, Bool, List}
-use Rattle.sql_tree.specs.declared.sort.Default.{Default}
+use Rattle.sql_names.specs.declared.sort.Default.{Default}
 use Rattle.sql_tree.specs.declared.statement.AlterDomainAction.{AlterDomainAction}
 use Rattle.sql_tree.specs.declared.statement.AlterDomainAction.TheVariants as domains
 use Rattle.sql_tree.specs.declared.statement.AlterTableAction.{AlterTableAction}
@@ -9,7 +9,7 @@ use Rattle.sql_tree.specs.declared.statement.Behaviour.{Behaviour}
 use Rattle.sql_tree.specs.declared.table.ColumnDefinition.{ColumnDefinition}
 use Rattle.sql_tree.specs.declared.table.DomainCheck.{DomainCheck}
 use Rattle.sql_tree.specs.declared.table.TableConstraint.{TableConstraint}
-use Rattle.sql_words.specs.declared.kind.Kind.TheVariants as k
+use Rattle.sql_spelling.specs.declared.kind.Kind.TheVariants as k
 use Rattle.sql_words.specs.declared.word.Word.{Word}
 use Rattle.sql_phrases.specs.Shapes.{Token, Marked}
 use Rattle.sql_phrases.specs.NameRules.{IsIdentifier}

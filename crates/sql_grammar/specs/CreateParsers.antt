@@ -4,7 +4,7 @@ use Rattle.sql_tree.specs.declared.body.Body.TheVariants as bodies
 use Rattle.sql_tree.specs.declared.body.Security.TheVariants.{Definer}
 use Rattle.sql_tree.specs.declared.statement.Statement.{Statement}
 use Rattle.sql_tree.specs.declared.statement.Statement.TheVariants as statements
-use Rattle.sql_words.specs.declared.kind.Kind.TheVariants as k
+use Rattle.sql_spelling.specs.declared.kind.Kind.TheVariants as k
 use Rattle.sql_phrases.specs.Parsers.{Parser, ◌>>=◌, ◌>>◌, pure, eat, expect, optional}
 use Rattle.sql_phrases.specs.NameParsers.{object_name, columns}
 use Rattle.sql_phrases.specs.TypeParsers.{sql_type}

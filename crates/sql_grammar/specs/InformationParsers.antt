@@ -7,7 +7,7 @@ use Rattle.sql_tree.specs.declared.statement.InfoTest.{InfoTest}
 use Rattle.sql_tree.specs.declared.statement.InfoTest.TheVariants as tests
 use Rattle.sql_tree.specs.declared.statement.InfoValue.{InfoValue}
 use Rattle.sql_tree.specs.declared.statement.InfoValue.TheVariants as values
-use Rattle.sql_words.specs.declared.kind.Kind.TheVariants as k
+use Rattle.sql_spelling.specs.declared.kind.Kind.TheVariants as k
 use Rattle.sql_phrases.specs.Reading.{sees}
 use Rattle.sql_phrases.specs.Parsers.{Parser, ◌>>=◌, ◌>>◌, ◌<$>◌, pure, eat, expect, text, separated}
 use Rattle.sql_phrases.specs.NameParsers.{identifier, identifiers}

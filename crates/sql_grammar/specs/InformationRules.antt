@@ -7,7 +7,7 @@ use Rattle.sql_tree.specs.declared.statement.InfoTest.{InfoTest}
 use Rattle.sql_tree.specs.declared.statement.InfoTest.TheVariants as tests
 use Rattle.sql_tree.specs.declared.statement.InfoValue.{InfoValue}
 use Rattle.sql_tree.specs.declared.statement.InfoValue.TheVariants as values
-use Rattle.sql_words.specs.declared.kind.Kind.TheVariants as k
+use Rattle.sql_spelling.specs.declared.kind.Kind.TheVariants as k
 use Rattle.sql_words.specs.declared.word.Word.{Word}
 use Rattle.sql_phrases.specs.Shapes.{Token, Spells, Separated}
 use Rattle.sql_phrases.specs.NameRules.{IsIdentifier, IsIdentifiers}

@@ -1,7 +1,7 @@
 -- The statements of SQL that this profile leaves out, by their first words.
 use Rattle.std.specs.Prelude.{Bool, true, false, List, IsTrue}
-use Rattle.sql_words.specs.declared.kind.Kind.{Kind}
-use Rattle.sql_words.specs.declared.kind.Kind.TheVariants as k
+use Rattle.sql_spelling.specs.declared.kind.Kind.{Kind}
+use Rattle.sql_spelling.specs.declared.kind.Kind.TheVariants as k
 use Rattle.sql_words.specs.declared.word.Word.{Word}
 use Rattle.sql_phrases.specs.Reading.{peek, next}
 

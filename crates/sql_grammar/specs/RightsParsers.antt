@@ -14,9 +14,10 @@ use Rattle.sql_tree.specs.declared.rights.TargetKind.{TargetKind}
 use Rattle.sql_tree.specs.declared.rights.TargetKind.TheVariants as kinds
 use Rattle.sql_tree.specs.declared.statement.Behaviour.{Behaviour}
 use Rattle.sql_tree.specs.declared.statement.Behaviour.TheVariants as behaviours
-use Rattle.sql_words.specs.Kinds.{kind_of, is_name, same_kind}
-use Rattle.sql_words.specs.declared.kind.Kind.{Kind}
-use Rattle.sql_words.specs.declared.kind.Kind.TheVariants as k
+use Rattle.sql_spelling.specs.Kinds.{is_name, same_kind}
+use Rattle.sql_words.specs.Kinds.{kind_of}
+use Rattle.sql_spelling.specs.declared.kind.Kind.{Kind}
+use Rattle.sql_spelling.specs.declared.kind.Kind.TheVariants as k
 use Rattle.sql_words.specs.declared.word.Word.{Word}
 use Rattle.sql_phrases.specs.Reading.{peek, next}
 use Rattle.sql_phrases.specs.Parsers.{Parser, ◌>>=◌, ◌>>◌, ◌<$>◌, pure, refuse, skip, eat, expect, separated, optional}

@@ -1,7 +1,7 @@
 -- Privileges, their targets, grantees and grantors.
 use Rattle.std.specs.Prelude.{◌≡◌, ℕ, Bool, true, false, List, [], Option}
 use Rattle.std.specs.List.{list_all}
-use Rattle.sql_tree.specs.declared.column.ObjectName.{ObjectName}
+use Rattle.sql_names.specs.declared.column.ObjectName.{ObjectName}
 use Rattle.sql_tree.specs.declared.rights.Action.{Action}
 use Rattle.sql_tree.specs.declared.rights.Action.TheVariants as actions
 use Rattle.sql_tree.specs.declared.rights.Grantee.{Grantee}
@@ -16,8 +16,8 @@ use Rattle.sql_tree.specs.declared.rights.TargetKind.{TargetKind}
 use Rattle.sql_tree.specs.declared.rights.TargetKind.TheVariants as kinds
 use Rattle.sql_tree.specs.declared.statement.Behaviour.{Behaviour}
 use Rattle.sql_tree.specs.declared.statement.Behaviour.TheVariants as behaviours
-use Rattle.sql_words.specs.declared.kind.Kind.{Kind}
-use Rattle.sql_words.specs.declared.kind.Kind.TheVariants as k
+use Rattle.sql_spelling.specs.declared.kind.Kind.{Kind}
+use Rattle.sql_spelling.specs.declared.kind.Kind.TheVariants as k
 use Rattle.sql_words.specs.declared.word.Word.{Word}
 use Rattle.sql_phrases.specs.Shapes.{Spelled, Token, Separated, Optional}
 use Rattle.sql_phrases.specs.NameRules.{IsIdentifier, IsObjectName, IsColumns}

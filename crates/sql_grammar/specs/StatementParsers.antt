@@ -9,8 +9,8 @@ use Rattle.sql_tree.specs.declared.statement.SchemaNameClause.{SchemaNameClause}
 use Rattle.sql_tree.specs.declared.statement.SchemaNameClause.TheVariants as clauses
 use Rattle.sql_tree.specs.declared.statement.Statement.{Statement}
 use Rattle.sql_tree.specs.declared.statement.Statement.TheVariants as statements
-use Rattle.sql_words.specs.declared.kind.Kind.{Kind}
-use Rattle.sql_words.specs.declared.kind.Kind.TheVariants as k
+use Rattle.sql_spelling.specs.declared.kind.Kind.{Kind}
+use Rattle.sql_spelling.specs.declared.kind.Kind.TheVariants as k
 use Rattle.sql_words.specs.declared.word.Word.{Word}
 use Rattle.sql_phrases.specs.Reading.{peek, next, sees}
 use Rattle.sql_phrases.specs.Parsers.{Parser, ◌>>=◌, ◌>>◌, ◌<$>◌, pure, refuse, skip, eat, expect, separated, optional}

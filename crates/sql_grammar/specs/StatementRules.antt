@@ -3,16 +3,16 @@ use Rattle.std.specs.Prelude.{ℕ, suc, ◌-◌, Bool, false, List, [], Option}
 use Rattle.sql_tree.specs.declared.body.Act.{Act}
 use Rattle.sql_tree.specs.declared.body.Body.TheVariants as bodies
 use Rattle.sql_tree.specs.declared.body.Security.TheVariants.{Definer}
-use Rattle.sql_tree.specs.declared.column.ObjectName.{ObjectName}
+use Rattle.sql_names.specs.declared.column.ObjectName.{ObjectName}
 use Rattle.sql_tree.specs.declared.expr.Expr.{Expr}
 use Rattle.sql_tree.specs.declared.expr.Query.{Query}
 use Rattle.sql_tree.specs.declared.rights.Grantee.{Grantee}
 use Rattle.sql_tree.specs.declared.rights.Grantor.{Grantor}
 use Rattle.sql_tree.specs.declared.rights.Privileges.{Privileges}
 use Rattle.sql_tree.specs.declared.rights.Target.{Target}
-use Rattle.sql_tree.specs.declared.sort.Default.{Default}
-use Rattle.sql_tree.specs.declared.sort.Param.{Param}
-use Rattle.sql_tree.specs.declared.sort.SqlType.{SqlType}
+use Rattle.sql_names.specs.declared.sort.Default.{Default}
+use Rattle.sql_names.specs.declared.sort.Param.{Param}
+use Rattle.sql_names.specs.declared.sort.SqlType.{SqlType}
 use Rattle.sql_tree.specs.declared.statement.AlterDomainAction.{AlterDomainAction}
 use Rattle.sql_tree.specs.declared.statement.AlterTableAction.{AlterTableAction}
 use Rattle.sql_tree.specs.declared.statement.Behaviour.{Behaviour}
@@ -27,7 +27,7 @@ use Rattle.sql_tree.specs.declared.statement.Statement.{Statement}
 use Rattle.sql_tree.specs.declared.statement.Statement.TheVariants as statements
 use Rattle.sql_tree.specs.declared.table.DomainCheck.{DomainCheck}
 use Rattle.sql_tree.specs.declared.table.TableElement.{TableElement}
-use Rattle.sql_words.specs.declared.kind.Kind.TheVariants as k
+use Rattle.sql_spelling.specs.declared.kind.Kind.TheVariants as k
 use Rattle.sql_words.specs.declared.word.Word.{Word}
 use Rattle.sql_phrases.specs.Shapes.{Token, Separated, Repeated, Optional, Marked}
 use Rattle.sql_phrases.specs.NameRules.{IsIdentifier, IsLiteralName, IsObjectName, IsIdentifiers, IsColumns}

@@ -1,7 +1,7 @@
 //! What CREATE makes, after the word that names its kind.
 
 ghost use Rattle.std.specs.Prelude.{◌≡◌, false};
-ghost use Rattle.sql_words.specs.declared.kind.Kind.TheVariants as k;
+ghost use Rattle.sql_spelling.specs.declared.kind.Kind.TheVariants as k;
 ghost use Rattle.sql_grammar.specs.CreateParsers as spec;
 ghost use Rattle.sql_phrases.specs.Parsers as parsers;
 ghost use Rattle.sql_phrases.specs.Parsers.{Reads};

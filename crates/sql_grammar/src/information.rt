@@ -1,7 +1,7 @@
 //! SELECT from a view of the Information Schema.
 
 ghost use Rattle.std.specs.Prelude.{◌≡◌};
-ghost use Rattle.sql_words.specs.declared.kind.Kind.TheVariants as k;
+ghost use Rattle.sql_spelling.specs.declared.kind.Kind.TheVariants as k;
 ghost use Rattle.sql_grammar.specs.InformationParsers as spec;
 ghost use Rattle.sql_phrases.specs.Parsers.{Reads, separated};
 

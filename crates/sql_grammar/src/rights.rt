@@ -2,7 +2,7 @@
 
 ghost use Rattle.std.specs.Prelude.{◌≡◌, Some};
 ghost use Rattle.std.specs.List.{list_all};
-ghost use Rattle.sql_words.specs.declared.kind.Kind.TheVariants as k;
+ghost use Rattle.sql_spelling.specs.declared.kind.Kind.TheVariants as k;
 ghost use Rattle.sql_phrases.specs.Parsers.{Reads, separated};
 ghost use Rattle.sql_grammar.specs.RightsRules as rules;
 ghost use Rattle.sql_grammar.specs.RightsParsers as spec;

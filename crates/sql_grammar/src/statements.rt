@@ -3,7 +3,7 @@
 ghost use Rattle.std.specs.Prelude.{◌≡◌, ◌↔◌, List, Err, IfOk};
 ghost use Rattle.sql_tree.specs.declared.statement.Statement.{Statement};
 ghost use Rattle.sql_words.specs.declared.word.Word.{Word};
-ghost use Rattle.sql_words.specs.declared.kind.Kind.TheVariants as k;
+ghost use Rattle.sql_spelling.specs.declared.kind.Kind.TheVariants as k;
 ghost use Rattle.sql_phrases.specs.NameParsers as names;
 ghost use Rattle.sql_phrases.specs.Parsers as parsers;
 ghost use Rattle.sql_phrases.specs.Parsers.{Reads};

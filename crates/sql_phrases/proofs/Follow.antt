@@ -1,11 +1,12 @@
 -- What a word's kind tells of the tests that the parser makes.
 use Rattle.std.proofs.Common.{◌≡◌, ℕ, ◌<◌, ◌≤◌, Bool, true, false, List, [], ◌∷◌, refl, ap, arith}
 use denote.Enum.Bare.{sameb, true_same, false_same, same_true}
-use Rattle.sql_words.specs.Kinds.{kind_of, text_of, same_kind}
+use Rattle.sql_spelling.specs.Kinds.{same_kind}
+use Rattle.sql_words.specs.Kinds.{kind_of, text_of}
 use Rattle.sql_words.specs.declared.word.Word.{Word}
-use Rattle.sql_words.specs.declared.kind.Kind.{Kind}
-use Rattle.sql_words.specs.declared.kind.Kind.TheVariants as k
-use Rattle.sql_words.specs.contracts.kind.Kind.{the_type}
+use Rattle.sql_spelling.specs.declared.kind.Kind.{Kind}
+use Rattle.sql_spelling.specs.declared.kind.Kind.TheVariants as k
+use Rattle.sql_spelling.specs.contracts.kind.Kind.{the_type}
 use Rattle.sql_phrases.specs.Reading.{peek, spelling, next, sees}
 
 -- How tightly a word goes on with what stands before it, in the parts of a statement that hold no expression.

@@ -4,8 +4,8 @@ use Rattle.std.specs.Prelude.{if◌then◌else◌}
 use Rattle.std.proofs.lemmas.Option.{some_pair_parts}
 use Rattle.sql_words.specs.Kinds.{text_of}
 use Rattle.sql_words.specs.declared.word.Word.{Word}
-use Rattle.sql_words.specs.declared.kind.Kind.{Kind}
-use Rattle.sql_words.specs.declared.kind.Kind.TheVariants as k
+use Rattle.sql_spelling.specs.declared.kind.Kind.{Kind}
+use Rattle.sql_spelling.specs.declared.kind.Kind.TheVariants as k
 use Rattle.sql_phrases.specs.Reading.{peek, next, spelling, sees, after}
 use Rattle.sql_phrases.specs.Shapes.{Spelled, Token, token, Spells, spells, Separated, one, more, Repeated, no_more, again, Optional, left_out, said}
 use Rattle.sql_phrases.specs.Parsers as parse

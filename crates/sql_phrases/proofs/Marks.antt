@@ -1,7 +1,7 @@
 -- A word that may be left out.
 use Rattle.std.proofs.Common.{◌≡◌, ◌≤◌, Bool, true, false, List, length, refl, arith}
 use Rattle.sql_words.specs.declared.word.Word.{Word}
-use Rattle.sql_words.specs.declared.kind.Kind.{Kind}
+use Rattle.sql_spelling.specs.declared.kind.Kind.{Kind}
 use Rattle.sql_phrases.specs.Reading.{sees, after}
 use Rattle.sql_phrases.specs.Shapes.{Marked, absent, present}
 use Rattle.sql_phrases.proofs.Lists.{IsWord, token_seen, after_not, sees_at, after_at, shorter_token}

@@ -1,10 +1,11 @@
 -- Names: what is read is spelled so, and what is spelled so is read.
 use Rattle.std.proofs.Common.{◌≡◌, ℕ, ◌<◌, ◌≤◌, true, false, List, [], ◌∷◌, length, Some, refl, arith, lit<}
-use Rattle.sql_tree.specs.declared.column.ObjectName.{ObjectName}
-use Rattle.sql_words.specs.Kinds.{text_of, is_name, same_kind}
+use Rattle.sql_names.specs.declared.column.ObjectName.{ObjectName}
+use Rattle.sql_spelling.specs.Kinds.{is_name, same_kind}
+use Rattle.sql_words.specs.Kinds.{text_of}
 use Rattle.sql_words.specs.declared.word.Word.{Word}
-use Rattle.sql_words.specs.declared.kind.Kind.{Kind}
-use Rattle.sql_words.specs.declared.kind.Kind.TheVariants as k
+use Rattle.sql_spelling.specs.declared.kind.Kind.{Kind}
+use Rattle.sql_spelling.specs.declared.kind.Kind.TheVariants as k
 use Rattle.sql_phrases.specs.Reading.{peek, next, spelling, sees, after}
 use Rattle.sql_phrases.specs.NameRules.{IsIdentifier, identifier, IsLiteralName, literal_name, IsObjectName, unqualified, qualified, IsIdentifiers, IsColumns, no_columns, columns}
 use Rattle.sql_phrases.specs.NameParsers as parse

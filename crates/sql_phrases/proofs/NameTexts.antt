@@ -4,7 +4,7 @@ use Rattle.std.specs.Prelude.{nat_lt, nat_le, ◌&&◌}
 use Rattle.std.specs.Str.{is_utf8}
 use Rattle.std.proofs.lemmas.Bool.{and_parts, leb-true, le-leb}
 use Rattle.std.proofs.lemmas.Str.{IsUtf8-from_is_utf8, is_utf8-from_IsUtf8}
-use Rattle.sql_tree.specs.Names.{IsName}
+use Rattle.sql_names.specs.Names.{IsName}
 use Rattle.sql_phrases.specs.NameParsers.{fits_name}
 
 pub is_name_fits : (t : List ℕ) → IsName t → fits_name t ≡ true

@@ -2,7 +2,7 @@
 use Rattle.std.proofs.Common.{◌≡◌, ℕ, Bool, suc, ◌+◌, ◌-◌, ◌<◌, ◌≤◌, List, [], ◌∷◌, ◌++◌, Some, None, ap, arith}
 use Rattle.std.specs.Prelude.{if◌then◌else◌}
 use Rattle.sql_words.specs.declared.word.Word.{Word}
-use Rattle.sql_words.specs.declared.kind.Kind.{Kind}
+use Rattle.sql_spelling.specs.declared.kind.Kind.{Kind}
 use Rattle.sql_phrases.specs.Reading.{peek, sees, after}
 use Rattle.sql_phrases.specs.Parsers.{Parser, and_then, separated_from, repeated_from}
 

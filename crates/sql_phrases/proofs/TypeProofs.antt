@@ -2,13 +2,13 @@
 use Rattle.std.proofs.Common.{◌≡◌, ℕ, ◌<◌, true, false, List, Option, Some, None, refl, sym, ap, ◌∙◌, subst, arith, lit≤}
 use Rattle.std.specs.Prelude.{◌==◌}
 use Rattle.std.proofs.lemmas.Bool.{ne_eqb, eqb-false}
-use Rattle.sql_tree.specs.declared.sort.Default.{Default}
-use Rattle.sql_tree.specs.declared.sort.Special.{Special}
-use Rattle.sql_tree.specs.declared.sort.Special.TheVariants as specials
-use Rattle.sql_tree.specs.declared.sort.SqlType.{SqlType}
+use Rattle.sql_names.specs.declared.sort.Default.{Default}
+use Rattle.sql_names.specs.declared.sort.Special.{Special}
+use Rattle.sql_names.specs.declared.sort.Special.TheVariants as specials
+use Rattle.sql_names.specs.declared.sort.SqlType.{SqlType}
 use Rattle.sql_words.specs.declared.word.Word.{Word}
-use Rattle.sql_words.specs.declared.kind.Kind.{Kind}
-use Rattle.sql_words.specs.declared.kind.Kind.TheVariants as k
+use Rattle.sql_spelling.specs.declared.kind.Kind.{Kind}
+use Rattle.sql_spelling.specs.declared.kind.Kind.TheVariants as k
 use Rattle.sql_phrases.specs.Reading.{peek, next, spelling, sees}
 use Rattle.sql_phrases.specs.Shapes.{Token, absent, present}
 use Rattle.sql_phrases.specs.TypeRules.{IsNumber, number, IsCharacterWord, character_word, char_word, decimal_word, dec_word, IsBracketed, bracketed, IsSize, size_unsaid, size, IsPrecision, precision_unsaid, precision, with_scale, IsType, character, varchar, varying, numeric, decimal, smallint, integer, int, bigint, boolean, date, time, timestamp, IsSpecial, current_user, current_date, current_time, current_timestamp, IsDefault, literal, true_word, false_word, null, special}

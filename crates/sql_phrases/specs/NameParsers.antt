@@ -1,10 +1,10 @@
 -- Reading names and lists of names.
 use Rattle.std.specs.Prelude.{ℕ, Bool, ◌&&◌, nat_lt, nat_le, List, [], length, Some, None, if◌then◌else◌}
 use Rattle.std.specs.Str.{is_utf8}
-use Rattle.sql_tree.specs.declared.column.ObjectName.{ObjectName}
-use Rattle.sql_tree.specs.declared.column.ObjectName.TheVariants as objects
-use Rattle.sql_words.specs.Kinds.{is_name}
-use Rattle.sql_words.specs.declared.kind.Kind.TheVariants as k
+use Rattle.sql_names.specs.declared.column.ObjectName.{ObjectName}
+use Rattle.sql_names.specs.declared.column.ObjectName.TheVariants as objects
+use Rattle.sql_spelling.specs.Kinds.{is_name}
+use Rattle.sql_spelling.specs.declared.kind.Kind.TheVariants as k
 use Rattle.sql_words.specs.declared.word.Word.{Word}
 use Rattle.sql_phrases.specs.Reading.{peek, spelling, next, sees}
 use Rattle.sql_phrases.specs.Parsers.{Parser, ◌>>=◌, ◌>>◌, ◌<$>◌, pure, eat, expect, separated}

@@ -1,10 +1,11 @@
 -- Names and lists of names.
 use Rattle.std.specs.Prelude.{◌≡◌, ℕ, true, List, [], ◌∷◌}
-use Rattle.sql_tree.specs.Names.{IsName}
-use Rattle.sql_tree.specs.declared.column.ObjectName.{ObjectName}
-use Rattle.sql_tree.specs.declared.column.ObjectName.TheVariants as objects
-use Rattle.sql_words.specs.Kinds.{kind_of, text_of, is_name}
-use Rattle.sql_words.specs.declared.kind.Kind.TheVariants as k
+use Rattle.sql_names.specs.Names.{IsName}
+use Rattle.sql_names.specs.declared.column.ObjectName.{ObjectName}
+use Rattle.sql_names.specs.declared.column.ObjectName.TheVariants as objects
+use Rattle.sql_spelling.specs.Kinds.{is_name}
+use Rattle.sql_words.specs.Kinds.{kind_of, text_of}
+use Rattle.sql_spelling.specs.declared.kind.Kind.TheVariants as k
 use Rattle.sql_words.specs.declared.word.Word.{Word}
 use Rattle.sql_phrases.specs.Shapes.{Spelled, Token, Spells, Separated}
 

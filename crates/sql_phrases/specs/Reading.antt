@@ -1,8 +1,9 @@
 -- The words that are left, as the grammar sees them.
 use Rattle.std.specs.Prelude.{ℕ, Bool, List, [], ◌∷◌, if◌then◌else◌}
-use Rattle.sql_words.specs.Kinds.{kind_of, text_of, same_kind}
-use Rattle.sql_words.specs.declared.kind.Kind.{Kind}
-use Rattle.sql_words.specs.declared.kind.Kind.TheVariants as k
+use Rattle.sql_spelling.specs.Kinds.{same_kind}
+use Rattle.sql_words.specs.Kinds.{kind_of, text_of}
+use Rattle.sql_spelling.specs.declared.kind.Kind.{Kind}
+use Rattle.sql_spelling.specs.declared.kind.Kind.TheVariants as k
 use Rattle.sql_words.specs.declared.word.Word.{Word}
 
 -- the kind of the next word

@@ -1,7 +1,7 @@
 -- The shapes of which the rules of the grammar are made. Each relates what is spelled, the words that begin with it, and the words after it.
 use Rattle.std.specs.Prelude.{◌≡◌, ℕ, Bool, true, false, List, [], ◌∷◌, Option, Some, None}
 use Rattle.sql_words.specs.Kinds.{kind_of, text_of}
-use Rattle.sql_words.specs.declared.kind.Kind.{Kind}
+use Rattle.sql_spelling.specs.declared.kind.Kind.{Kind}
 use Rattle.sql_words.specs.declared.word.Word.{Word}
 
 abbrev pub Spelled : Type 0 → Type 1

@@ -1,7 +1,7 @@
 //! Names and lists of names.
 
 ghost use Rattle.std.specs.Prelude.{◌≡◌};
-ghost use Rattle.sql_words.specs.declared.kind.Kind.TheVariants as k;
+ghost use Rattle.sql_spelling.specs.declared.kind.Kind.TheVariants as k;
 ghost use Rattle.sql_phrases.specs.NameParsers as spec;
 ghost use Rattle.sql_phrases.specs.Parsers.{Reads};
 

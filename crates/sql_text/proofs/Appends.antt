@@ -1,7 +1,7 @@
 -- A text that grew piece by piece.
 use Rattle.std.proofs.Common.{◌≡◌, ◌∙◌, ◌++◌, ap, append_assoc, Ok, Err}
 use Rattle.std.specs.Prelude.{OnOk, Result}
-use Rattle.sql_text.specs.Texts.{T}
+use Rattle.sql_spelling.specs.Texts.{T}
 
 pub on_ok : {A E P Q : Type 0} (r : Result A E) → (P → Q) → OnOk r P → OnOk r Q
 on_ok (Ok x) f p = f p

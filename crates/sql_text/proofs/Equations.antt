@@ -1,7 +1,7 @@
 -- The printed texts, one equation for each alternative.
 use Rattle.std.proofs.Common.{◌≡◌, Bool, List, [], ◌++◌, Option, Some, None, codes, map, rules}
 use Rattle.std.specs.Prelude.{option_map}
-use Rattle.sql_text.specs.Texts.{T, literal_text, name_text, object_name_text, reference_text, alias_text, table_text, special_text, minus_text}
+use Rattle.sql_spelling.specs.Texts.{T, literal_text, name_text, object_name_text, reference_text, alias_text, table_text, special_text, minus_text}
 use Rattle.sql_text.specs.Printing.{separated, joined, comparison_text, additive_text, multiplicative_text, aggregate_text, operator_text, not_text, distinct_text, group_text, optional_text, call_text, subquery_text, cast_text, added_text, arm_text, chain_text, conjunction_text, expr_text, factor_text, further_text, join_text, multiplied_text, negation_text, operand_text, predicate_text, query_text, select_text, select_item_text, select_list_text, sum_text, tail_text, term_text}
 use Rattle.sql_tree.specs.declared.expr.Comparison.{Comparison}
 use Rattle.sql_tree.specs.declared.expr.Aggregate.{Aggregate}
@@ -25,11 +25,11 @@ use Rattle.sql_tree.specs.declared.expr.Operand.TheVariants as operands
 use Rattle.sql_tree.specs.declared.expr.SelectItem.TheVariants as select_items
 use Rattle.sql_tree.specs.declared.expr.SelectList.TheVariants as select_lists
 use Rattle.sql_tree.specs.declared.expr.Tail.TheVariants as tails
-use Rattle.sql_tree.specs.declared.sort.SqlType.{SqlType}
-use Rattle.sql_tree.specs.declared.sort.Special.{Special}
-use Rattle.sql_tree.specs.declared.column.Reference.{Reference}
-use Rattle.sql_tree.specs.declared.column.ObjectName.{ObjectName}
-use Rattle.sql_tree.specs.declared.column.TableReference.{TableReference}
+use Rattle.sql_names.specs.declared.sort.SqlType.{SqlType}
+use Rattle.sql_names.specs.declared.sort.Special.{Special}
+use Rattle.sql_names.specs.declared.column.Reference.{Reference}
+use Rattle.sql_names.specs.declared.column.ObjectName.{ObjectName}
+use Rattle.sql_names.specs.declared.column.TableReference.{TableReference}
 use Rattle.sql_tree.specs.declared.expr.Expr.{the_lemmas}
 
 pub text_Added : (x : Added) → added_text x ≡ additive_text (out-Added x).by ++ term_text (out-Added x).term

@@ -1,6 +1,6 @@
 -- How bodies of routines are printed. Whose rights they run with isn't.
 use Rattle.std.specs.Prelude.{List, [], ◌∷◌, ◌++◌, Option, codes, map, flat_map, option_map}
-use Rattle.sql_text.specs.Texts.{T, name_text, object_name_text}
+use Rattle.sql_spelling.specs.Texts.{T, name_text, object_name_text}
 use Rattle.sql_text.specs.Printing.{separated, optional_text, call_text, expr_text, query_text}
 use Rattle.sql_tree.specs.declared.body.Body.{Body}
 use Rattle.sql_tree.specs.declared.body.Body.TheVariants as bodies
@@ -12,7 +12,7 @@ use Rattle.sql_tree.specs.declared.body.Assignment.{Assignment}
 use Rattle.sql_tree.specs.declared.body.AssignedValue.{AssignedValue}
 use Rattle.sql_tree.specs.declared.body.AssignedValue.TheVariants as values
 use Rattle.sql_tree.specs.declared.expr.Expr.{Expr}
-use Rattle.sql_tree.specs.declared.column.ObjectName.{ObjectName}
+use Rattle.sql_names.specs.declared.column.ObjectName.{ObjectName}
 
 abbrev pub value_text : AssignedValue → T
 value_text values.Null = codes "NULL"

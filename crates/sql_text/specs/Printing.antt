@@ -1,8 +1,8 @@
 -- How queries and expressions are printed: one step for each type, with one equation for each alternative. In a step each
 -- part is already seen as its text. Words stand one space apart, with none behind "(" and "." and none before ")", "," and ".".
 use Rattle.std.specs.Prelude.{Bool, List, [], ◌∷◌, ◌++◌, Option, Some, None, codes, if◌then◌else◌, map, flat_map}
-use Rattle.sql_text.specs.Texts.{T, literal_text, name_text, object_name_text, reference_text, alias_text, table_text, type_text, special_text, minus_text}
-use Rattle.sql_tree.specs.declared.sort.SqlType.{SqlType}
+use Rattle.sql_spelling.specs.Texts.{T, literal_text, name_text, object_name_text, reference_text, alias_text, table_text, type_text, special_text, minus_text}
+use Rattle.sql_names.specs.declared.sort.SqlType.{SqlType}
 use Rattle.sql_tree.specs.declared.expr.Comparison.{Comparison}
 use Rattle.sql_tree.specs.declared.expr.Comparison.TheVariants as comparisons
 use Rattle.sql_tree.specs.declared.expr.Additive.{Additive}

@@ -1,12 +1,12 @@
 //! The printed text of routines' bodies.
 
 ghost use Rattle.std.specs.Prelude.{◌≡◌, ◌++◌, OnOk, IfOk, map, codes, flat_map};
-ghost use Rattle.sql_text.specs.Texts.{name_text};
+ghost use Rattle.sql_spelling.specs.Texts.{name_text};
 ghost use Rattle.sql_text.specs.Printing.{separated};
 ghost use Rattle.sql_text.specs.Bodies as spec;
 
 use crate::exprs::{put_call, put_expr, put_optional_expr, put_query};
-use crate::names::{put_name, put_object_name};
+use sql_spelling::{put_name, put_object_name};
 use sql_tree::{Act, AssignedValue, Assignment, Body, Expr, InsertSource, Name, ObjectName, Text};
 use std::alloc::{AllocError, Global};
 

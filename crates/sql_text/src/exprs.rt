@@ -4,10 +4,10 @@
 #![tactic(auto, using(crate::proofs::Equations::texts, std::proofs::lemmas::Grind::common_steps))]
 
 ghost use Rattle.std.specs.Prelude.{◌≡◌, ◌++◌, [], OnOk, IfOk, map, codes, option_map};
-ghost use Rattle.sql_text.specs.Texts.{reference_text, object_name_text};
+ghost use Rattle.sql_spelling.specs.Texts.{reference_text, object_name_text};
 ghost use Rattle.sql_text.specs.Printing as spec;
 
-use crate::names::{
+use sql_spelling::{
     put_alias, put_literal, put_minus, put_name, put_object_name, put_reference, put_special,
     put_table, put_type,
 };
@@ -241,7 +241,7 @@ fn put_joins(out: &mut Text, all: &[Join]) -> Result<(), AllocError>
 pub fn put_expr(out: &mut Text, expr: &Expr) -> Result<(), AllocError>
     ensures { OnOk result (out.new ≡ out.old ++ spec.expr_text expr.now) }
 {
-    put_conjunctions(out, expr.any.as_slice())
+    put_conjunctions(out, expr.any.get().as_slice())
 }
 
 #[cycle(print)]
@@ -469,8 +469,8 @@ fn put_arm(out: &mut Text, arm: &Arm) -> Result<(), AllocError>
 pub fn put_query(out: &mut Text, query: &Query) -> Result<(), AllocError>
     ensures { OnOk result (out.new ≡ out.old ++ spec.query_text query.now) }
 {
-    put_select(out, &query.first)?;
-    put_further_selects(out, query.others.as_slice())
+    put_select(out, query.first.get())?;
+    put_further_selects(out, query.others.get().as_slice())
 }
 
 #[cycle(print)]

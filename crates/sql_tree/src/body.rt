@@ -2,23 +2,19 @@
 
 ghost use Rattle.std.specs.Prelude.{◌≡◌, ◌↔◌, IfOk, IsTrue};
 
-use crate::column::ObjectName;
-use crate::copies::EqualCopy;
 use crate::expr::{Expr, Query};
-use crate::name::Name;
-use crate::sameness::Same;
-use sqlite_items::Items;
+use sql_names::{EqualCopy, Items, Name, ObjectName, Same};
 use std::alloc::{AllocError, Global};
 
 /// Whose rights a routine runs with: its owner's or its caller's.
-#[derive(Clone, Copy, Debug, PartialEq, Eq)]
+#[derive(Clone, Copy, PartialEq, Eq)]
 pub enum Security {
     Definer,
     Invoker,
 }
 
 /// What a routine does.
-#[derive(Debug, Drop)]
+#[derive(Drop)]
 pub enum Body {
     /// `RETURN expression`, of a function.
     Return {
@@ -33,7 +29,7 @@ pub enum Body {
 }
 
 /// A statement in a procedure's body.
-#[derive(Debug, Drop)]
+#[derive(Drop)]
 pub enum Act {
     /// `columns` is empty where no list is written. In a resolved tree it has the columns.
     Insert {
@@ -57,7 +53,7 @@ pub enum Act {
 }
 
 /// What an INSERT puts in.
-#[derive(Debug, Drop)]
+#[derive(Drop)]
 pub enum InsertSource {
     /// One or more.
     Values(Items<AssignedValue>),
@@ -65,14 +61,14 @@ pub enum InsertSource {
 }
 
 /// `column = value` after SET.
-#[derive(Debug, Drop)]
+#[derive(Drop)]
 pub struct Assignment {
     pub column: Name,
     pub value: AssignedValue,
 }
 
 /// A value that a column is given.
-#[derive(Debug, Drop)]
+#[derive(Drop)]
 pub enum AssignedValue {
     Null,
     Default,

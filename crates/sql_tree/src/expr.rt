@@ -3,14 +3,12 @@
 mod copy;
 mod same;
 
-use crate::column::{ObjectName, Reference, TableReference};
-use crate::name::Name;
-use crate::sort::{Special, SqlType};
-use crate::text::Text;
-use sqlite_items::{Boxed, Items};
+use sql_names::{
+    Boxed, Items, Name, ObjectName, Reference, Shared, Special, SqlType, TableReference, Text,
+};
 
 /// How two values are compared.
-#[derive(Clone, Copy, Debug, PartialEq, Eq)]
+#[derive(Clone, Copy, PartialEq, Eq)]
 pub enum Comparison {
     Equal,
     NotEqual,
@@ -21,7 +19,7 @@ pub enum Comparison {
 }
 
 /// `+`, `-` or `||`
-#[derive(Clone, Copy, Debug, PartialEq, Eq)]
+#[derive(Clone, Copy, PartialEq, Eq)]
 pub enum Additive {
     Plus,
     Minus,
@@ -29,14 +27,14 @@ pub enum Additive {
 }
 
 /// `*` or `/`
-#[derive(Clone, Copy, Debug, PartialEq, Eq)]
+#[derive(Clone, Copy, PartialEq, Eq)]
 pub enum Multiplicative {
     Times,
     Divided,
 }
 
 /// A set function with an argument. `COUNT(*)` is an operand of its own.
-#[derive(Clone, Copy, Debug, PartialEq, Eq)]
+#[derive(Clone, Copy, PartialEq, Eq)]
 pub enum Aggregate {
     Count,
     Sum,
@@ -46,7 +44,7 @@ pub enum Aggregate {
 }
 
 /// What joins two SELECTs.
-#[derive(Clone, Copy, Debug, PartialEq, Eq)]
+#[derive(Clone, Copy, PartialEq, Eq)]
 pub enum SetOperator {
     Union,
     Except,
@@ -54,23 +52,23 @@ pub enum SetOperator {
 
 /// One or more conjunctions, joined by OR.
 #[cycle(tree)]
-#[derive(Debug, Drop)]
+#[derive(Drop)]
 pub struct Expr {
-    pub any: Items<Conjunction>,
+    pub any: Shared<Items<Conjunction>>,
 }
 
-const _: () = prove!(size_of::<Expr>() == 24);
+const _: () = prove!(size_of::<Expr>() == 8);
 
 /// One or more parts, joined by AND.
 #[cycle(tree)]
-#[derive(Debug, Drop)]
+#[derive(Drop)]
 pub struct Conjunction {
     pub every: Items<Negation>,
 }
 
 /// `[NOT] predicate`
 #[cycle(tree)]
-#[derive(Debug, Drop)]
+#[derive(Drop)]
 pub struct Negation {
     pub negated: bool,
     pub predicate: Predicate,
@@ -78,7 +76,7 @@ pub struct Negation {
 
 /// A sum, and the test of it where there is one.
 #[cycle(tree)]
-#[derive(Debug, Drop)]
+#[derive(Drop)]
 pub struct Predicate {
     pub tested: Sum,
     pub tail: Option<Boxed<Tail>>,
@@ -86,7 +84,7 @@ pub struct Predicate {
 
 /// A test of the sum before it.
 #[cycle(tree)]
-#[derive(Debug, Drop)]
+#[derive(Drop)]
 pub enum Tail {
     Compare { by: Comparison, with: Sum },
     /// `IS [NOT] NULL`
@@ -99,7 +97,7 @@ pub enum Tail {
 
 /// Terms, joined from left to right.
 #[cycle(tree)]
-#[derive(Debug, Drop)]
+#[derive(Drop)]
 pub struct Sum {
     pub first: Term,
     pub others: Items<Added>,
@@ -107,7 +105,7 @@ pub struct Sum {
 
 /// A later term of a sum.
 #[cycle(tree)]
-#[derive(Debug, Drop)]
+#[derive(Drop)]
 pub struct Added {
     pub by: Additive,
     pub term: Term,
@@ -115,7 +113,7 @@ pub struct Added {
 
 /// Factors, joined from left to right.
 #[cycle(tree)]
-#[derive(Debug, Drop)]
+#[derive(Drop)]
 pub struct Term {
     pub first: Factor,
     pub others: Items<Multiplied>,
@@ -123,7 +121,7 @@ pub struct Term {
 
 /// A later factor of a term.
 #[cycle(tree)]
-#[derive(Debug, Drop)]
+#[derive(Drop)]
 pub struct Multiplied {
     pub by: Multiplicative,
     pub factor: Factor,
@@ -131,7 +129,7 @@ pub struct Multiplied {
 
 /// `[-] operand`
 #[cycle(tree)]
-#[derive(Debug, Drop)]
+#[derive(Drop)]
 pub struct Factor {
     pub minus: bool,
     pub operand: Operand,
@@ -139,7 +137,7 @@ pub struct Factor {
 
 /// What stands between operators.
 #[cycle(tree)]
-#[derive(Debug, Drop)]
+#[derive(Drop)]
 pub enum Operand {
     /// A literal, without its quotes and undoubled.
     Literal(Text),
@@ -180,7 +178,7 @@ pub enum Operand {
 
 /// `WHEN condition THEN value`
 #[cycle(tree)]
-#[derive(Debug, Drop)]
+#[derive(Drop)]
 pub struct Arm {
     pub condition: Expr,
     pub value: Expr,
@@ -188,15 +186,15 @@ pub struct Arm {
 
 /// SELECTs, joined from left to right.
 #[cycle(tree)]
-#[derive(Debug, Drop)]
+#[derive(Drop)]
 pub struct Query {
-    pub first: Select,
-    pub others: Items<Further>,
+    pub first: Shared<Select>,
+    pub others: Shared<Items<Further>>,
 }
 
 /// A later SELECT of a query.
 #[cycle(tree)]
-#[derive(Debug, Drop)]
+#[derive(Drop)]
 pub struct Further {
     pub by: SetOperator,
     pub all: bool,
@@ -205,7 +203,7 @@ pub struct Further {
 
 /// One SELECT. `group_by` is empty where GROUP BY isn't written.
 #[cycle(tree)]
-#[derive(Debug, Drop)]
+#[derive(Drop)]
 pub struct Select {
     pub distinct: bool,
     pub list: SelectList,
@@ -216,7 +214,7 @@ pub struct Select {
 
 /// What a SELECT gives.
 #[cycle(tree)]
-#[derive(Debug, Drop)]
+#[derive(Drop)]
 pub enum SelectList {
     /// `*`, which no resolved tree has.
     Star,
@@ -226,7 +224,7 @@ pub enum SelectList {
 
 /// An item of a select list.
 #[cycle(tree)]
-#[derive(Debug, Drop)]
+#[derive(Drop)]
 pub enum SelectItem {
     /// `expression [[AS] name]`. In a resolved tree it has its name.
     Expr { expr: Expr, name: Option<Name> },
@@ -236,7 +234,7 @@ pub enum SelectItem {
 
 /// A table of a FROM, and the tables joined to it, from left to right.
 #[cycle(tree)]
-#[derive(Debug, Drop)]
+#[derive(Drop)]
 pub struct Chain {
     pub first: TableReference,
     pub joins: Items<Join>,
@@ -244,7 +242,7 @@ pub struct Chain {
 
 /// A further table of a chain.
 #[cycle(tree)]
-#[derive(Debug, Drop)]
+#[derive(Drop)]
 pub enum Join {
     /// `[INNER] JOIN table ON condition`
     Inner { table: TableReference, on: Expr },

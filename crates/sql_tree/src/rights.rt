@@ -2,14 +2,11 @@
 
 ghost use Rattle.std.specs.Prelude.{◌≡◌, IfOk};
 
-use crate::column::ObjectName;
-use crate::copies::EqualCopy;
-use crate::name::Name;
-use sqlite_items::Items;
+use sql_names::{EqualCopy, Items, Name, ObjectName};
 use std::alloc::{AllocError, Global};
 
 /// What a right allows, by its number. Only rights have ADMIN; no privilege of a statement names it.
-#[derive(Clone, Copy, Debug, PartialEq, Eq, PartialOrd, Ord, Hash)]
+#[derive(Clone, Copy, PartialEq, Eq, PartialOrd, Ord, Hash)]
 pub enum Action {
     Select = 1,
     Insert = 2,
@@ -22,28 +19,28 @@ pub enum Action {
 }
 
 /// ALL PRIVILEGES, or one or more.
-#[derive(Debug, Drop)]
+#[derive(Drop)]
 pub enum Privileges {
     All,
     Listed(Items<Privilege>),
 }
 
 /// An action. `columns` is empty where no list is written; DELETE, USAGE and EXECUTE have none.
-#[derive(Debug, Drop)]
+#[derive(Drop)]
 pub struct Privilege {
     pub action: Action,
     pub columns: Items<Name>,
 }
 
 /// What a privilege is on. TABLE may be left out.
-#[derive(Debug, Drop)]
+#[derive(Drop)]
 pub struct Target {
     pub kind: TargetKind,
     pub object: ObjectName,
 }
 
 /// The kind of object that a privilege is on.
-#[derive(Clone, Copy, Debug, PartialEq, Eq)]
+#[derive(Clone, Copy, PartialEq, Eq)]
 pub enum TargetKind {
     Table,
     Domain,
@@ -53,14 +50,14 @@ pub enum TargetKind {
 }
 
 /// To whom a privilege is granted.
-#[derive(Debug, Drop)]
+#[derive(Drop)]
 pub enum Grantee {
     Public,
     Named(Name),
 }
 
 /// Who grants: CURRENT_USER or CURRENT_ROLE.
-#[derive(Clone, Copy, Debug, PartialEq, Eq)]
+#[derive(Clone, Copy, PartialEq, Eq)]
 pub enum Grantor {
     CurrentUser,
     CurrentRole,

@@ -2,16 +2,12 @@
 
 ghost use Rattle.std.specs.Prelude.{◌≡◌, IfOk};
 
-use crate::column::ObjectName;
-use crate::copies::{EqualCopy, copy_optional_name};
 use crate::expr::Expr;
-use crate::name::Name;
-use crate::sort::{Default, SqlType};
-use sqlite_items::Items;
+use sql_names::{Default, EqualCopy, Items, Name, ObjectName, SqlType, copy_optional_name};
 use std::alloc::{AllocError, Global};
 
 /// How null values of a foreign key are treated; SIMPLE where MATCH isn't written.
-#[derive(Clone, Copy, Debug, PartialEq, Eq)]
+#[derive(Clone, Copy, PartialEq, Eq)]
 pub enum Matching {
     Simple,
     Full,
@@ -19,7 +15,7 @@ pub enum Matching {
 }
 
 /// The referential action after ON DELETE or ON UPDATE; NO ACTION where it isn't written.
-#[derive(Clone, Copy, Debug, PartialEq, Eq)]
+#[derive(Clone, Copy, PartialEq, Eq)]
 pub enum Rule {
     NoAction,
     Cascade,
@@ -29,14 +25,14 @@ pub enum Rule {
 }
 
 /// An element of CREATE TABLE.
-#[derive(Debug, Drop)]
+#[derive(Drop)]
 pub enum TableElement {
     Column(ColumnDefinition),
     Constraint(TableConstraint),
 }
 
 /// A column, with its options in the order in which they are written: at most one of them is a DEFAULT.
-#[derive(Debug, Drop)]
+#[derive(Drop)]
 pub struct ColumnDefinition {
     pub column: Name,
     pub sort: ColumnType,
@@ -44,14 +40,14 @@ pub struct ColumnDefinition {
 }
 
 /// What a column is based on.
-#[derive(Debug, Drop)]
+#[derive(Drop)]
 pub enum ColumnType {
     Type(SqlType),
     Domain(ObjectName),
 }
 
 /// What may stand after a column's type.
-#[derive(Debug, Drop)]
+#[derive(Drop)]
 pub enum ColumnOption {
     Default(Default),
     NotNull,
@@ -62,7 +58,7 @@ pub enum ColumnOption {
 }
 
 /// A constraint on one column.
-#[derive(Debug, Drop)]
+#[derive(Drop)]
 pub enum ColumnConstraint {
     PrimaryKey,
     Unique,
@@ -71,14 +67,14 @@ pub enum ColumnConstraint {
 }
 
 /// A constraint of a table, and its name where it is written.
-#[derive(Debug, Drop)]
+#[derive(Drop)]
 pub struct TableConstraint {
     pub name: Option<Name>,
     pub kind: TableConstraintKind,
 }
 
 /// What a constraint of a table says. Each list of columns has one or more.
-#[derive(Debug, Drop)]
+#[derive(Drop)]
 pub enum TableConstraintKind {
     PrimaryKey(Items<Name>),
     Unique(Items<Name>),
@@ -90,7 +86,7 @@ pub enum TableConstraintKind {
 }
 
 /// `REFERENCES table ..`. `columns` is empty where no list is written.
-#[derive(Debug, Drop)]
+#[derive(Drop)]
 pub struct References {
     pub table: ObjectName,
     pub columns: Items<Name>,
@@ -100,7 +96,7 @@ pub struct References {
 }
 
 /// A domain's check, and its name where it is written.
-#[derive(Debug, Drop)]
+#[derive(Drop)]
 pub struct DomainCheck {
     pub name: Option<Name>,
     pub condition: Expr,

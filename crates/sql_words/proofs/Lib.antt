@@ -5,14 +5,12 @@ pub mod Sizes
 pub mod Gaps
 pub mod Quoted
 pub mod WordsSoFar
-pub mod Dictionary
 pub mod Spellings
 pub mod Fronts
 pub mod Divisions
 pub mod Passing
 pub mod Steps
 pub mod Parts
-pub mod ReservedWords
 pub mod Bytes
 pub mod Doubling
 pub mod TokenForms

@@ -7,8 +7,5 @@ pub mod Splitting
 pub mod Words
 pub mod Tokens
 pub mod Failing
-pub mod Keywords
 pub mod WordForms
 pub mod Kinds
-pub mod KeywordLaws
-pub mod Sections

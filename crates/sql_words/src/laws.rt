@@ -1,6 +1,5 @@
 //! Laws of the definitions that the other contracts cite. Each stands in the contract of a function that does nothing.
 
-ghost use Rattle.sql_words.specs.KeywordLaws as keywords;
 ghost use Rattle.sql_words.specs.StreamLaws as law;
 ghost use Rattle.sql_words.specs.WordForms as words;
 
@@ -22,12 +21,6 @@ pub fn texts_are_those_of_the_parts()
 /// Where a stream goes on, its texts and its rest go on from its rest so far.
 pub fn pieces_compose()
     ensures { law.PiecesCompose }
-{}
-
-/// A plain word has the kind of a reserved word exactly where it is one of SQL:2003's in this profile, and stands for a name
-/// exactly where it isn't.
-pub fn reserved_words_are_no_names()
-    ensures { keywords.ReservedWordsAreNoNames }
 {}
 
 /// The bytes of a token spell its word, and each word of a text is one that its form allows: a plain word has 1 to 128

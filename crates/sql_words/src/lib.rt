@@ -1,7 +1,6 @@
 //! The texts of statements in a stream of SQL, and the words of a text.
 #![tactic(auto)]
 
-mod keywords;
 mod kind;
 mod laws;
 mod reading;
@@ -10,12 +9,14 @@ mod splitter;
 mod tokens;
 mod word;
 
-pub use kind::{Kind, is_name, is_reserved, is_reserved_word, kind_of, same_kind, text_of};
+pub use kind::{kind_of, text_of};
 pub use laws::{
-    each_stream_has_one_division, pieces_compose, reserved_words_are_no_names,
-    spelled_words_are_read, texts_are_those_of_the_parts, tokens_spell_their_words,
+    each_stream_has_one_division, pieces_compose, spelled_words_are_read, texts_are_those_of_the_parts, tokens_spell_their_words,
 };
 pub use reading::{WordsError, words};
+pub use sql_spelling::{
+    Kind, is_name, is_reserved, is_reserved_word, reserved_words_are_no_names, same_kind,
+};
 pub use splitter::{Fed, MOST_BYTES, Splitter};
 pub use word::{Symbol, Word};
 

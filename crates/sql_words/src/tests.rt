@@ -1,5 +1,5 @@
 use super::*;
-use sql_tree::Text;
+use sql_names::Text;
 use std::alloc::Global;
 use std::test::Fail;
 

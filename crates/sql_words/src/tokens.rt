@@ -7,7 +7,7 @@ ghost use Rattle.sql_words.specs.Tokens.{is_in, IsQuoted, IsToken};
 
 use crate::scan::{is_run_byte, is_space};
 use crate::word::{Symbol, Word};
-use sql_tree::Text;
+use sql_names::Text;
 use std::alloc::{AllocError, Global};
 
 /// The most bytes of a plain word and of a quoted name.

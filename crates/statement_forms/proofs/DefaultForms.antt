@@ -1,17 +1,18 @@
 -- A default that the words of a text spell is of its form.
 use Rattle.std.proofs.Common.{◌≡◌, ◌∙◌, not, Bool, true, false, ℕ, List, [], Some, IsUtf8, refl, ap, sym}
 use Rattle.std.proofs.lemmas.List.Elements.{All-nil, All-cons}
-use Rattle.sql_tree.specs.declared.sort.Default.{Default}
-use Rattle.sql_words.specs.Keywords.{is_reserved_word}
-use Rattle.sql_words.specs.Kinds.{kind_of, text_of, keyword, symbol_kind, is_reserved, is_name, same_kind}
+use Rattle.sql_names.specs.declared.sort.Default.{Default}
+use Rattle.sql_spelling.specs.Keywords.{is_reserved_word}
+use Rattle.sql_spelling.specs.Kinds.{keyword, is_reserved, is_name, same_kind}
+use Rattle.sql_words.specs.Kinds.{kind_of, text_of, symbol_kind}
 use Rattle.sql_words.specs.WordForms.{IsWord, AreWords}
-use Rattle.sql_words.specs.declared.kind.Kind.{Kind}
-use Rattle.sql_words.specs.declared.kind.Kind.TheVariants as k
+use Rattle.sql_spelling.specs.declared.kind.Kind.{Kind}
+use Rattle.sql_spelling.specs.declared.kind.Kind.TheVariants as k
 use Rattle.sql_words.specs.declared.word.Symbol.{Symbol}
 use Rattle.sql_words.specs.declared.word.Symbol.TheVariants as s
 use Rattle.sql_words.specs.declared.word.Word.{Word}
 use Rattle.sql_words.specs.declared.word.Word.TheVariants as w
-use Rattle.sql_words.proofs.ReservedWords.{reserved-by-list, names-by-list}
+use Rattle.sql_spelling.proofs.ReservedWords.{reserved-by-list, names-by-list}
 use Rattle.sql_phrases.specs.Shapes.{Spells, spells}
 use Rattle.sql_phrases.specs.TypeRules as types
 use Rattle.cat_items.specs.Pieces.{AreResolved, IsResolved, IsNumber, default_pieces, of_literal, of_number}

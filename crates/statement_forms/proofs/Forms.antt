@@ -15,7 +15,7 @@ use Rattle.sql_tree.specs.declared.table.TableConstraintKind.{TableConstraintKin
 use Rattle.sql_tree.specs.declared.table.TableElement.{TableElement}
 use Rattle.sql_words.specs.Words.{words_of}
 use Rattle.sql_words.specs.WordForms.{AreWords}
-use Rattle.sql_words.specs.declared.kind.Kind.TheVariants as k
+use Rattle.sql_spelling.specs.declared.kind.Kind.TheVariants as k
 use Rattle.sql_words.specs.declared.word.Word.{Word}
 use Rattle.sql_words.proofs.ReadWords.{texts-have-words}
 use Rattle.sql_phrases.specs.NameRules.{IsIdentifiers}

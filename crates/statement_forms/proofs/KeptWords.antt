@@ -1,6 +1,6 @@
 -- The words behind a phrase are words of the text as well.
 use Rattle.std.proofs.Common.{ℕ, suc, ◌<◌, ◌≤◌, Bool, false, List, [], ◌∷◌, ◌++◌, Option, subst, arith}
-use Rattle.sql_tree.specs.declared.column.ObjectName.{ObjectName}
+use Rattle.sql_names.specs.declared.column.ObjectName.{ObjectName}
 use Rattle.sql_tree.specs.declared.expr.Expr.{Expr}
 use Rattle.sql_tree.specs.declared.table.ColumnConstraint.{ColumnConstraint}
 use Rattle.sql_tree.specs.declared.table.ColumnType.{ColumnType}
@@ -9,8 +9,8 @@ use Rattle.sql_tree.specs.declared.table.References.{References}
 use Rattle.sql_tree.specs.declared.table.Rule.{Rule}
 use Rattle.sql_tree.specs.declared.table.TableElement.{TableElement}
 use Rattle.sql_words.specs.WordForms.{AreWords}
-use Rattle.sql_words.specs.declared.kind.Kind.{Kind}
-use Rattle.sql_words.specs.declared.kind.Kind.TheVariants as k
+use Rattle.sql_spelling.specs.declared.kind.Kind.{Kind}
+use Rattle.sql_spelling.specs.declared.kind.Kind.TheVariants as k
 use Rattle.sql_words.specs.declared.word.Word.{Word}
 use Rattle.sql_phrases.specs.Shapes.{Token, token, Optional, left_out, said, Marked, absent, present}
 use Rattle.sql_phrases.specs.NameRules.{IsIdentifier, IsObjectName, IsColumns}

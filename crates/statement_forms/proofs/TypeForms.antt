@@ -1,6 +1,6 @@
 -- The numbers of a data type that words spell are in their ranges.
 use Rattle.std.proofs.Common.{ℕ, ◌≤◌, List, arith}
-use Rattle.sql_tree.specs.declared.sort.SqlType.{SqlType}
+use Rattle.sql_names.specs.declared.sort.SqlType.{SqlType}
 use Rattle.sql_words.specs.declared.word.Word.{Word}
 use Rattle.sql_phrases.specs.TypeRules as types
 use Rattle.cat_items.specs.Pieces.{IsType, ArePrecision}

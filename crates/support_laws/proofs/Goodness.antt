@@ -11,7 +11,7 @@ use Rattle.finite_chains.specs.StrictOrder.{IsRising}
 use Rattle.finite_chains.proofs.Chains.{Survives-step, IsChain-within, HasSurvivors-part}
 use Rattle.finite_chains.proofs.Members.{Contains-nil, Contains-tail, Contains-cases, Contains-filter, filter_passes_one, All-from_contains}
 use Rattle.finite_chains.proofs.StrictOrders.{IsRising-filter}
-use Rattle.sql_tree.specs.declared.object.Object.{Object}
+use Rattle.sql_names.specs.declared.object.Object.{Object}
 use Rattle.cat_items.specs.declared.need.Need.{Need}
 use Rattle.cat_items.specs.declared.item.View.{View}
 use Rattle.cat_items.specs.declared.item.Right.{Right}

@@ -4,9 +4,9 @@ use Rattle.std.specs.Prelude.{◌≢◌, ◌++◌, ℕ, All, map, flat_map}
 use Rattle.std.specs.List.{Contains}
 use Rattle.std.proofs.lemmas.List.Elements.{All-contains, All-append, All-map}
 use Rattle.finite_chains.proofs.Members.{Contains-nil, Contains-cases, All-from_contains}
-use Rattle.sql_tree.specs.declared.object.Object.{Object}
-use Rattle.sql_tree.specs.declared.column.ObjectName.{ObjectName}
-use Rattle.sql_tree.specs.declared.column.ObjectName.TheVariants.{Unqualified, Qualified}
+use Rattle.sql_names.specs.declared.object.Object.{Object}
+use Rattle.sql_names.specs.declared.column.ObjectName.{ObjectName}
+use Rattle.sql_names.specs.declared.column.ObjectName.TheVariants.{Unqualified, Qualified}
 use Rattle.sql_tree.specs.declared.rights.Action.{Action}
 use Rattle.sql_tree.specs.declared.rights.Action.TheVariants as action
 use Rattle.sql_tree.specs.declared.expr.Expr.{Expr}

@@ -1,7 +1,7 @@
 -- Which rights are put in, layer by layer.
 use Rattle.std.specs.Prelude.{◌≡◌, ◌↔◌, ◌⊎◌, ℕ, List, Option, Some, None}
 use Rattle.std.specs.List.{Contains}
-use Rattle.sql_tree.specs.declared.object.Object.{Object}
+use Rattle.sql_names.specs.declared.object.Object.{Object}
 use Rattle.sql_tree.specs.declared.rights.Action.{Action}
 use Rattle.cat_items.specs.declared.need.Auth.TheVariants.{System, Named}
 use Rattle.cat_items.specs.declared.need.Need.{Need}

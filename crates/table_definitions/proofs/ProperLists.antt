@@ -1,9 +1,9 @@
 -- Lists, types and defaults of what is made.
 use Rattle.std.proofs.Common.{◌↔◌, ◌⊎◌, ℕ, ◌<◌, List, [], ◌∷◌, Option, length, sym, ◌∙◌, ap, subst, inl, inr}
 use Rattle.std.specs.List.{Contains}
-use Rattle.sql_tree.specs.declared.object.Object.{Object}
-use Rattle.sql_tree.specs.declared.sort.Default.{Default}
-use Rattle.sql_tree.specs.declared.sort.SqlType.{SqlType}
+use Rattle.sql_names.specs.declared.object.Object.{Object}
+use Rattle.sql_names.specs.declared.sort.Default.{Default}
+use Rattle.sql_names.specs.declared.sort.SqlType.{SqlType}
 use Rattle.sql_tree.specs.declared.table.ColumnDefinition.{ColumnDefinition}
 use Rattle.sql_tree.specs.declared.table.ColumnType.{ColumnType}
 use Rattle.sql_tree.specs.declared.table.ColumnType.TheVariants as bases

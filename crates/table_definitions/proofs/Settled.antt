@@ -1,6 +1,6 @@
 -- CREATE TABLE has at most one refusal, and makes at most one edit.
 use Rattle.std.proofs.Common.{◌≡◌, List, subst}
-use Rattle.sql_tree.specs.declared.object.Object.{Object}
+use Rattle.sql_names.specs.declared.object.Object.{Object}
 use Rattle.sql_tree.specs.declared.statement.CreateTable.{CreateTable}
 use Rattle.cat_items.specs.declared.edit.Edit.{Edit}
 use Rattle.cat_items.specs.declared.edit.Who.{Who}

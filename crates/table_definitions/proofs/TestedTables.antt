@@ -3,7 +3,7 @@ use Rattle.std.proofs.Common.{◌≡◌, ◌⊎◌, ℕ, zero, suc, ◌<◌, Lis
 use Rattle.std.specs.List.{AllPairs, Contains}
 use Rattle.std.specs.Option.{option_to_list}
 use Rattle.finite_chains.proofs.Members.{Contains-nil, Contains-head, Contains-tail, Contains-cases}
-use Rattle.sql_tree.specs.declared.object.Object.{Object}
+use Rattle.sql_names.specs.declared.object.Object.{Object}
 use Rattle.sql_tree.specs.declared.table.ColumnDefinition.{ColumnDefinition}
 use Rattle.sql_tree.specs.declared.table.TableConstraint.{TableConstraint}
 use Rattle.sql_tree.specs.declared.table.TableConstraintKind.{TableConstraintKind}

@@ -1,7 +1,7 @@
 -- Parts of what CREATE TABLE makes.
 use Rattle.std.specs.Prelude.{◌≡◌, ◌≤◌, ◌+◌, ℕ, List, Some, slice_get}
 use Rattle.std.specs.List.{Contains}
-use Rattle.sql_tree.specs.declared.object.Object.{Object}
+use Rattle.sql_names.specs.declared.object.Object.{Object}
 use Rattle.sql_tree.specs.declared.table.ColumnDefinition.{ColumnDefinition}
 use Rattle.cat_items.specs.declared.item.Foreign.{Foreign}
 use Rattle.cat_items.specs.declared.item.Item.{Item}

@@ -1,8 +1,8 @@
 -- What CREATE TABLE makes: the table, its columns in order, and its constraints (table definition, SQL:2003 part 2, 11.3).
 use Rattle.std.specs.Prelude.{◌≡◌, ◌↔◌, ◌+◌, ℕ, true, List, None, Some, slice_get}
 use Rattle.std.specs.List.{Contains}
-use Rattle.sql_tree.specs.declared.object.Object.{Object}
-use Rattle.sql_tree.specs.declared.sort.SqlType.{SqlType}
+use Rattle.sql_names.specs.declared.object.Object.{Object}
+use Rattle.sql_names.specs.declared.sort.SqlType.{SqlType}
 use Rattle.sql_tree.specs.declared.table.ColumnDefinition.{ColumnDefinition}
 use Rattle.sql_tree.specs.declared.table.ColumnType.{ColumnType}
 use Rattle.sql_tree.specs.declared.table.ColumnType.TheVariants as bases

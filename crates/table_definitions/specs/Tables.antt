@@ -1,6 +1,6 @@
 -- CREATE TABLE: its refusals, and its edit.
 use Rattle.std.specs.Prelude.{List}
-use Rattle.sql_tree.specs.declared.object.Object.{Object}
+use Rattle.sql_names.specs.declared.object.Object.{Object}
 use Rattle.sql_tree.specs.declared.statement.CreateTable.{CreateTable}
 use Rattle.cat_items.specs.declared.edit.Edit.{Edit}
 use Rattle.cat_items.specs.declared.edit.Refusal.{Refusal}

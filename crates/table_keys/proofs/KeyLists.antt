@@ -4,7 +4,7 @@ use Rattle.std.specs.List.{cons_option}
 use Rattle.std.specs.Option.{option_to_list}
 use Rattle.std.proofs.lemmas.List.{take_more}
 use Rattle.std.proofs.lemmas.List.Elements.{filter_map-append}
-use Rattle.sql_tree.specs.declared.object.Object.{Object}
+use Rattle.sql_names.specs.declared.object.Object.{Object}
 use Rattle.cat_items.specs.declared.item.Key.{Key}
 use Rattle.table_names.specs.declared.named.NamedConstraint.{NamedConstraint}
 use Rattle.table_keys.specs.Keys.{own_key, own_keys}

@@ -1,7 +1,7 @@
 -- The foreign keys of CREATE TABLE, each bound to a key (referential constraint definition, SQL:2003 part 2, 11.8).
 use Rattle.std.specs.Prelude.{◌≡◌, ◌↔◌, ℕ, List, length}
 use Rattle.std.specs.List.{Any, Contains}
-use Rattle.sql_tree.specs.declared.object.Object.{Object}
+use Rattle.sql_names.specs.declared.object.Object.{Object}
 use Rattle.sql_tree.specs.declared.table.References.{References}
 use Rattle.sql_tree.specs.declared.table.TableConstraintKind.{TableConstraintKind}
 use Rattle.sql_tree.specs.declared.table.TableConstraintKind.TheVariants as kinds

@@ -3,7 +3,7 @@
 use Rattle.std.specs.Prelude.{◌≡◌, ◌⊎◌, ◌↔◌, ℕ, true, false, List, [], ◌∷◌, Option, None, Some}
 use Rattle.std.specs.List.{Contains, filter_map}
 use Rattle.std.specs.declared.cmp.Ordering.TheVariants.{Less}
-use Rattle.sql_tree.specs.declared.object.Object.{Object}
+use Rattle.sql_names.specs.declared.object.Object.{Object}
 use Rattle.sql_tree.specs.declared.table.TableConstraintKind.{TableConstraintKind}
 use Rattle.sql_tree.specs.declared.table.TableConstraintKind.TheVariants as kinds
 use Rattle.cat_items.specs.declared.item.Item.{Item}

@@ -1,7 +1,7 @@
 -- What one constraint adds to the foreign keys of a table.
 use Rattle.std.specs.Prelude.{◌≡◌, ◌↔◌, ◌⊎◌, List}
 use Rattle.std.specs.List.{Contains}
-use Rattle.sql_tree.specs.declared.object.Object.{Object}
+use Rattle.sql_names.specs.declared.object.Object.{Object}
 use Rattle.sql_tree.specs.declared.table.TableConstraintKind.{TableConstraintKind}
 use Rattle.cat_items.specs.declared.edit.Refusal.{Refusal}
 use Rattle.cat_items.specs.declared.edit.Refusal.TheVariants.{NoSuchKey}

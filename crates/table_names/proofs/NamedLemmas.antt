@@ -11,7 +11,7 @@ use Rattle.table_names.specs.declared.named.NamedConstraint.{NamedConstraint}
 use Rattle.std.specs.Fmt.{decimal}
 use Rattle.std.specs.Str.{IsUtf8}
 use Rattle.std.proofs.lemmas.Fmt.{length-decimal-le}
-use Rattle.sql_tree.specs.Names.{IsName}
+use Rattle.sql_names.specs.Names.{IsName}
 use Rattle.table_names.specs.Named.{AddsNamed, AreNamed, IsNameFor, system_name}
 
 -- one more constraint behind the others

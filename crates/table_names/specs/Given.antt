@@ -2,7 +2,7 @@
 use Rattle.std.specs.Prelude.{◌≡◌, ◌≢◌, ◌⊎◌, ℕ, List, [], ◌∷◌, ◌++◌, map}
 use Rattle.std.specs.List.{Any, flat_map}
 use Rattle.std.specs.Option.{option_to_list}
-use Rattle.sql_tree.specs.declared.object.Object.{Object}
+use Rattle.sql_names.specs.declared.object.Object.{Object}
 use Rattle.sql_tree.specs.declared.table.References.{References}
 use Rattle.sql_tree.specs.declared.table.TableConstraintKind.{TableConstraintKind}
 use Rattle.sql_tree.specs.declared.table.TableConstraintKind.TheVariants as kinds

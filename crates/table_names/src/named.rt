@@ -13,7 +13,7 @@ use std::alloc::{AllocError, Global};
 use table_parts::{Part, is_among};
 
 /// A constraint and its name, which is given or made by the system.
-#[derive(Debug, Drop)]
+#[derive(Drop)]
 pub struct NamedConstraint {
     pub name: Name,
     pub kind: TableConstraintKind,

@@ -1,11 +1,11 @@
 -- Classes of types: values of one class can be compared and assigned.
 use Rattle.std.specs.Prelude.{Option, None, Some}
-use Rattle.sql_tree.specs.declared.sort.SqlType.{SqlType}
-use Rattle.sql_tree.specs.declared.sort.SqlType.TheVariants as sorts
-use Rattle.sql_tree.specs.declared.sort.Default.{Default}
-use Rattle.sql_tree.specs.declared.sort.Default.TheVariants as defaults
-use Rattle.sql_tree.specs.declared.sort.Special.{Special}
-use Rattle.sql_tree.specs.declared.sort.Special.TheVariants as specials
+use Rattle.sql_names.specs.declared.sort.SqlType.{SqlType}
+use Rattle.sql_names.specs.declared.sort.SqlType.TheVariants as sorts
+use Rattle.sql_names.specs.declared.sort.Default.{Default}
+use Rattle.sql_names.specs.declared.sort.Default.TheVariants as defaults
+use Rattle.sql_names.specs.declared.sort.Special.{Special}
+use Rattle.sql_names.specs.declared.sort.Special.TheVariants as specials
 use Rattle.table_parts.specs.declared.classes.Class.{Class}
 use Rattle.table_parts.specs.declared.classes.Class.TheVariants.{Number, Text, Boolean, Date, Time, Timestamp}
 

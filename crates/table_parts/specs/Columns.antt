@@ -1,7 +1,7 @@
 -- What a column's definition and the constraints say of a column.
 use Rattle.std.specs.Prelude.{◌⊎◌, ℕ, List, [], ◌∷◌, Option, None, Some}
 use Rattle.std.specs.List.{Any, Contains}
-use Rattle.sql_tree.specs.declared.sort.Default.{Default}
+use Rattle.sql_names.specs.declared.sort.Default.{Default}
 use Rattle.sql_tree.specs.declared.table.ColumnDefinition.{ColumnDefinition}
 use Rattle.sql_tree.specs.declared.table.ColumnOption.{ColumnOption}
 use Rattle.sql_tree.specs.declared.table.ColumnOption.TheVariants.{Default as DefaultOption, NotNull}

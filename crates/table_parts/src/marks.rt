@@ -9,7 +9,7 @@ use sql_tree::{Items, Name, TableConstraintKind};
 use std::alloc::{AllocError, Global};
 
 /// Something that may not come twice; `at` is the place of the constraint whose list of columns has the name.
-#[derive(Debug, Drop)]
+#[derive(Drop)]
 pub enum Mark {
     Column(Name),
     /// A constraint's name.

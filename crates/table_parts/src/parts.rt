@@ -10,7 +10,7 @@ use sql_tree::{
 use std::alloc::{AllocError, Global};
 
 /// A column, or a constraint, whether it is written in a column's definition or by itself.
-#[derive(Debug, Drop)]
+#[derive(Drop)]
 pub enum Part {
     Column(ColumnDefinition),
     Constraint(TableConstraint),

@@ -1,7 +1,7 @@
 -- The REFERENCES privileges that the foreign keys of CREATE TABLE need (access rules, SQL:2003 part 2, 11.8).
 use Rattle.std.specs.Prelude.{◌≡◌, ◌≢◌, ℕ, false, List, [], ◌∷◌}
 use Rattle.std.specs.List.{Contains}
-use Rattle.sql_tree.specs.declared.object.Object.{Object}
+use Rattle.sql_names.specs.declared.object.Object.{Object}
 use Rattle.cat_items.specs.declared.edit.Refusal.{Refusal}
 use Rattle.cat_items.specs.declared.edit.Refusal.TheVariants.{NoPrivilege}
 use Rattle.cat_items.specs.declared.edit.Who.{Who}

@@ -1,6 +1,6 @@
 -- Refusals of CREATE TABLE behind those by names and owners, in their order.
 use Rattle.std.specs.Prelude.{◌≡◌, ◌<◌, List, [], ◌∷◌, ◌++◌, length}
-use Rattle.sql_tree.specs.declared.object.Object.{Object}
+use Rattle.sql_names.specs.declared.object.Object.{Object}
 use Rattle.cat_items.specs.declared.edit.Refusal.{Refusal}
 use Rattle.cat_items.specs.declared.edit.Refusal.TheVariants.{CatalogFull}
 use Rattle.cat_items.specs.declared.edit.Who.{Who}

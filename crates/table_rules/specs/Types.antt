@@ -1,8 +1,8 @@
 -- Types in CREATE TABLE: a default has the class of its column, and a foreign key's columns have those of their target.
 use Rattle.std.specs.Prelude.{◌≡◌, ◌≢◌, ◌⊎◌, ℕ, List, [], ◌∷◌, Option, None, Some, length, slice_get}
 use Rattle.std.specs.List.{Any}
-use Rattle.sql_tree.specs.declared.object.Object.{Object}
-use Rattle.sql_tree.specs.declared.sort.Default.{Default}
+use Rattle.sql_names.specs.declared.object.Object.{Object}
+use Rattle.sql_names.specs.declared.sort.Default.{Default}
 use Rattle.sql_tree.specs.declared.table.ColumnType.{ColumnType}
 use Rattle.sql_tree.specs.declared.table.ColumnType.TheVariants as bases
 use Rattle.sql_tree.specs.declared.table.TableConstraintKind.{TableConstraintKind}

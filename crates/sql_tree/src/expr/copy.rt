@@ -1,4 +1,6 @@
 //! Equal copies of queries and expressions.
+//!
+//! A query and an expression share their parts with their copies, so that no copy goes further down than to these.
 
 ghost use Rattle.std.specs.Prelude.{◌≡◌, IfOk};
 
@@ -6,178 +8,45 @@ use super::{
     Added, Arm, Chain, Conjunction, Expr, Factor, Further, Join, Multiplied, Negation, Operand,
     Predicate, Query, Select, SelectItem, SelectList, Sum, Tail, Term,
 };
-use crate::copies::EqualCopy;
-use sqlite_items::{Boxed, Items};
+use sql_names::EqualCopy;
 use std::alloc::{AllocError, Global};
 
-#[cycle(copy)]
-fn copy_conjunctions(alloc: Global, all: &[Conjunction]) -> Result<Items<Conjunction>, AllocError>
-    ensures { IfOk result (λ copies. copies ≡ all.now) }
-{
-    let mut copies = Items::new(alloc);
-    for one in all {
-        copies.push(one.copy(alloc)?)?;
-    }
-    Ok(copies)
-}
-
-#[cycle(copy)]
-fn copy_negations(alloc: Global, all: &[Negation]) -> Result<Items<Negation>, AllocError>
-    ensures { IfOk result (λ copies. copies ≡ all.now) }
-{
-    let mut copies = Items::new(alloc);
-    for one in all {
-        copies.push(one.copy(alloc)?)?;
-    }
-    Ok(copies)
-}
-
-#[cycle(copy)]
-fn copy_exprs(alloc: Global, all: &[Expr]) -> Result<Items<Expr>, AllocError>
-    ensures { IfOk result (λ copies. copies ≡ all.now) }
-{
-    let mut copies = Items::new(alloc);
-    for one in all {
-        copies.push(one.copy(alloc)?)?;
-    }
-    Ok(copies)
-}
-
-#[cycle(copy)]
-fn copy_added(alloc: Global, all: &[Added]) -> Result<Items<Added>, AllocError>
-    ensures { IfOk result (λ copies. copies ≡ all.now) }
-{
-    let mut copies = Items::new(alloc);
-    for one in all {
-        copies.push(one.copy(alloc)?)?;
-    }
-    Ok(copies)
-}
-
-#[cycle(copy)]
-fn copy_multiplied(alloc: Global, all: &[Multiplied]) -> Result<Items<Multiplied>, AllocError>
-    ensures { IfOk result (λ copies. copies ≡ all.now) }
-{
-    let mut copies = Items::new(alloc);
-    for one in all {
-        copies.push(one.copy(alloc)?)?;
-    }
-    Ok(copies)
-}
-
-#[cycle(copy)]
-fn copy_arms(alloc: Global, all: &[Arm]) -> Result<Items<Arm>, AllocError>
-    ensures { IfOk result (λ copies. copies ≡ all.now) }
-{
-    let mut copies = Items::new(alloc);
-    for one in all {
-        copies.push(one.copy(alloc)?)?;
-    }
-    Ok(copies)
-}
-
-#[cycle(copy)]
-fn copy_further(alloc: Global, all: &[Further]) -> Result<Items<Further>, AllocError>
-    ensures { IfOk result (λ copies. copies ≡ all.now) }
-{
-    let mut copies = Items::new(alloc);
-    for one in all {
-        copies.push(one.copy(alloc)?)?;
-    }
-    Ok(copies)
-}
-
-#[cycle(copy)]
-fn copy_select_items(alloc: Global, all: &[SelectItem]) -> Result<Items<SelectItem>, AllocError>
-    ensures { IfOk result (λ copies. copies ≡ all.now) }
-{
-    let mut copies = Items::new(alloc);
-    for one in all {
-        copies.push(one.copy(alloc)?)?;
-    }
-    Ok(copies)
-}
-
-#[cycle(copy)]
-fn copy_chains(alloc: Global, all: &[Chain]) -> Result<Items<Chain>, AllocError>
-    ensures { IfOk result (λ copies. copies ≡ all.now) }
-{
-    let mut copies = Items::new(alloc);
-    for one in all {
-        copies.push(one.copy(alloc)?)?;
-    }
-    Ok(copies)
-}
-
-#[cycle(copy)]
-fn copy_joins(alloc: Global, all: &[Join]) -> Result<Items<Join>, AllocError>
-    ensures { IfOk result (λ copies. copies ≡ all.now) }
-{
-    let mut copies = Items::new(alloc);
-    for one in all {
-        copies.push(one.copy(alloc)?)?;
-    }
-    Ok(copies)
-}
-
-#[cycle(copy)]
-fn copy_boxed_query(alloc: Global, query: &Boxed<Query>) -> Result<Boxed<Query>, AllocError>
-    ensures { IfOk result (λ copy. copy ≡ query.now) }
-{
-    let copy = query.get().copy(alloc)?;
-    Boxed::new(alloc, copy)
-}
-
-#[cycle(copy)]
-fn copy_optional_expr(alloc: Global, expr: &Option<Expr>) -> Result<Option<Expr>, AllocError>
-    ensures { IfOk result (λ copy. copy ≡ expr.now) }
-{
-    match expr {
-        None => Ok(None),
-        Some(expr) => Ok(Some(expr.copy(alloc)?)),
-    }
-}
-
-#[cycle(copy)]
-fn copy_tail(alloc: Global, tail: &Option<Boxed<Tail>>) -> Result<Option<Boxed<Tail>>, AllocError>
-    ensures { IfOk result (λ copy. copy ≡ tail.now) }
-{
-    match tail {
-        None => Ok(None),
-        Some(tail) => {
-            let copy = tail.get().copy(alloc)?;
-            Ok(Some(Boxed::new(alloc, copy)?))
-        }
-    }
-}
-
 impl Expr {
-    /// An equal value.
-    #[cycle(copy)]
-    pub fn copy(&self, alloc: Global) -> Result<Expr, AllocError>
+    /// An equal value. It takes no memory, as the two share their parts; `Err` is the end of the count of owners.
+    pub fn copy(&self, _alloc: Global) -> Result<Expr, AllocError>
         ensures { IfOk result (λ copy. copy ≡ self.now) }
     {
         Ok(Expr {
-            any: copy_conjunctions(alloc, self.any.as_slice())?,
+            any: self.any.share()?,
+        })
+    }
+}
+
+impl Query {
+    /// An equal value. It takes no memory, as the two share their parts; `Err` is the end of the count of owners.
+    pub fn copy(&self, _alloc: Global) -> Result<Query, AllocError>
+        ensures { IfOk result (λ copy. copy ≡ self.now) }
+    {
+        Ok(Query {
+            first: self.first.share()?,
+            others: self.others.share()?,
         })
     }
 }
 
 impl Conjunction {
     /// An equal value.
-    #[cycle(copy)]
     pub fn copy(&self, alloc: Global) -> Result<Conjunction, AllocError>
         ensures { IfOk result (λ copy. copy ≡ self.now) }
     {
         Ok(Conjunction {
-            every: copy_negations(alloc, self.every.as_slice())?,
+            every: self.every.equal_copy(alloc)?,
         })
     }
 }
 
 impl Negation {
     /// An equal value.
-    #[cycle(copy)]
     pub fn copy(&self, alloc: Global) -> Result<Negation, AllocError>
         ensures { IfOk result (λ copy. copy ≡ self.now) }
     {
@@ -190,20 +59,130 @@ impl Negation {
 
 impl Predicate {
     /// An equal value.
-    #[cycle(copy)]
     pub fn copy(&self, alloc: Global) -> Result<Predicate, AllocError>
         ensures { IfOk result (λ copy. copy ≡ self.now) }
     {
         Ok(Predicate {
             tested: self.tested.copy(alloc)?,
-            tail: copy_tail(alloc, &self.tail)?,
+            tail: self.tail.equal_copy(alloc)?,
+        })
+    }
+}
+
+impl Sum {
+    /// An equal value.
+    pub fn copy(&self, alloc: Global) -> Result<Sum, AllocError>
+        ensures { IfOk result (λ copy. copy ≡ self.now) }
+    {
+        Ok(Sum {
+            first: self.first.copy(alloc)?,
+            others: self.others.equal_copy(alloc)?,
+        })
+    }
+}
+
+impl Added {
+    /// An equal value.
+    pub fn copy(&self, alloc: Global) -> Result<Added, AllocError>
+        ensures { IfOk result (λ copy. copy ≡ self.now) }
+    {
+        Ok(Added {
+            by: self.by,
+            term: self.term.copy(alloc)?,
+        })
+    }
+}
+
+impl Term {
+    /// An equal value.
+    pub fn copy(&self, alloc: Global) -> Result<Term, AllocError>
+        ensures { IfOk result (λ copy. copy ≡ self.now) }
+    {
+        Ok(Term {
+            first: self.first.copy(alloc)?,
+            others: self.others.equal_copy(alloc)?,
+        })
+    }
+}
+
+impl Multiplied {
+    /// An equal value.
+    pub fn copy(&self, alloc: Global) -> Result<Multiplied, AllocError>
+        ensures { IfOk result (λ copy. copy ≡ self.now) }
+    {
+        Ok(Multiplied {
+            by: self.by,
+            factor: self.factor.copy(alloc)?,
+        })
+    }
+}
+
+impl Factor {
+    /// An equal value.
+    pub fn copy(&self, alloc: Global) -> Result<Factor, AllocError>
+        ensures { IfOk result (λ copy. copy ≡ self.now) }
+    {
+        Ok(Factor {
+            minus: self.minus,
+            operand: self.operand.copy(alloc)?,
+        })
+    }
+}
+
+impl Arm {
+    /// An equal value.
+    pub fn copy(&self, alloc: Global) -> Result<Arm, AllocError>
+        ensures { IfOk result (λ copy. copy ≡ self.now) }
+    {
+        Ok(Arm {
+            condition: self.condition.copy(alloc)?,
+            value: self.value.copy(alloc)?,
+        })
+    }
+}
+
+impl Further {
+    /// An equal value.
+    pub fn copy(&self, alloc: Global) -> Result<Further, AllocError>
+        ensures { IfOk result (λ copy. copy ≡ self.now) }
+    {
+        Ok(Further {
+            by: self.by,
+            all: self.all,
+            select: self.select.copy(alloc)?,
+        })
+    }
+}
+
+impl Select {
+    /// An equal value.
+    pub fn copy(&self, alloc: Global) -> Result<Select, AllocError>
+        ensures { IfOk result (λ copy. copy ≡ self.now) }
+    {
+        Ok(Select {
+            distinct: self.distinct,
+            list: self.list.copy(alloc)?,
+            from: self.from.equal_copy(alloc)?,
+            filter: self.filter.equal_copy(alloc)?,
+            group_by: self.group_by.equal_copy(alloc)?,
+        })
+    }
+}
+
+impl Chain {
+    /// An equal value.
+    pub fn copy(&self, alloc: Global) -> Result<Chain, AllocError>
+        ensures { IfOk result (λ copy. copy ≡ self.now) }
+    {
+        Ok(Chain {
+            first: self.first.copy()?,
+            joins: self.joins.equal_copy(alloc)?,
         })
     }
 }
 
 impl Tail {
     /// An equal value.
-    #[cycle(copy)]
     pub fn copy(&self, alloc: Global) -> Result<Tail, AllocError>
         ensures { IfOk result (λ copy. copy ≡ self.now) }
     {
@@ -224,7 +203,7 @@ impl Tail {
             }),
             Tail::InList { negated, list } => Ok(Tail::InList {
                 negated: *negated,
-                list: copy_exprs(alloc, list.as_slice())?,
+                list: list.equal_copy(alloc)?,
             }),
             Tail::Like { negated, pattern } => Ok(Tail::Like {
                 negated: *negated,
@@ -234,74 +213,8 @@ impl Tail {
     }
 }
 
-impl Sum {
-    /// An equal value.
-    #[cycle(copy)]
-    pub fn copy(&self, alloc: Global) -> Result<Sum, AllocError>
-        ensures { IfOk result (λ copy. copy ≡ self.now) }
-    {
-        Ok(Sum {
-            first: self.first.copy(alloc)?,
-            others: copy_added(alloc, self.others.as_slice())?,
-        })
-    }
-}
-
-impl Added {
-    /// An equal value.
-    #[cycle(copy)]
-    pub fn copy(&self, alloc: Global) -> Result<Added, AllocError>
-        ensures { IfOk result (λ copy. copy ≡ self.now) }
-    {
-        Ok(Added {
-            by: self.by,
-            term: self.term.copy(alloc)?,
-        })
-    }
-}
-
-impl Term {
-    /// An equal value.
-    #[cycle(copy)]
-    pub fn copy(&self, alloc: Global) -> Result<Term, AllocError>
-        ensures { IfOk result (λ copy. copy ≡ self.now) }
-    {
-        Ok(Term {
-            first: self.first.copy(alloc)?,
-            others: copy_multiplied(alloc, self.others.as_slice())?,
-        })
-    }
-}
-
-impl Multiplied {
-    /// An equal value.
-    #[cycle(copy)]
-    pub fn copy(&self, alloc: Global) -> Result<Multiplied, AllocError>
-        ensures { IfOk result (λ copy. copy ≡ self.now) }
-    {
-        Ok(Multiplied {
-            by: self.by,
-            factor: self.factor.copy(alloc)?,
-        })
-    }
-}
-
-impl Factor {
-    /// An equal value.
-    #[cycle(copy)]
-    pub fn copy(&self, alloc: Global) -> Result<Factor, AllocError>
-        ensures { IfOk result (λ copy. copy ≡ self.now) }
-    {
-        Ok(Factor {
-            minus: self.minus,
-            operand: self.operand.copy(alloc)?,
-        })
-    }
-}
-
 impl Operand {
     /// An equal value.
-    #[cycle(copy)]
     pub fn copy(&self, alloc: Global) -> Result<Operand, AllocError>
         ensures { IfOk result (λ copy. copy ≡ self.now) }
     {
@@ -315,7 +228,7 @@ impl Operand {
             Operand::Reference(part) => Ok(Operand::Reference(part.copy()?)),
             Operand::Call { routine, arguments } => Ok(Operand::Call {
                 routine: routine.copy()?,
-                arguments: copy_exprs(alloc, arguments.as_slice())?,
+                arguments: arguments.equal_copy(alloc)?,
             }),
             Operand::CountAll => Ok(Operand::CountAll),
             Operand::Aggregate { function, argument } => Ok(Operand::Aggregate {
@@ -323,95 +236,34 @@ impl Operand {
                 argument: argument.copy(alloc)?,
             }),
             Operand::Case { arms, otherwise } => Ok(Operand::Case {
-                arms: copy_arms(alloc, arms.as_slice())?,
-                otherwise: copy_optional_expr(alloc, otherwise)?,
+                arms: arms.equal_copy(alloc)?,
+                otherwise: otherwise.equal_copy(alloc)?,
             }),
             Operand::Cast { operand, sort } => Ok(Operand::Cast {
-                operand: copy_optional_expr(alloc, operand)?,
+                operand: operand.equal_copy(alloc)?,
                 sort: *sort,
             }),
-            Operand::Exists(part) => Ok(Operand::Exists(copy_boxed_query(alloc, part)?)),
-            Operand::Subquery(part) => Ok(Operand::Subquery(copy_boxed_query(alloc, part)?)),
+            Operand::Exists(part) => Ok(Operand::Exists(part.equal_copy(alloc)?)),
+            Operand::Subquery(part) => Ok(Operand::Subquery(part.equal_copy(alloc)?)),
             Operand::Parenthesized(part) => Ok(Operand::Parenthesized(part.copy(alloc)?)),
         }
     }
 }
 
-impl Arm {
-    /// An equal value.
-    #[cycle(copy)]
-    pub fn copy(&self, alloc: Global) -> Result<Arm, AllocError>
-        ensures { IfOk result (λ copy. copy ≡ self.now) }
-    {
-        Ok(Arm {
-            condition: self.condition.copy(alloc)?,
-            value: self.value.copy(alloc)?,
-        })
-    }
-}
-
-impl Query {
-    /// An equal value.
-    #[cycle(copy)]
-    pub fn copy(&self, alloc: Global) -> Result<Query, AllocError>
-        ensures { IfOk result (λ copy. copy ≡ self.now) }
-    {
-        Ok(Query {
-            first: self.first.copy(alloc)?,
-            others: copy_further(alloc, self.others.as_slice())?,
-        })
-    }
-}
-
-impl Further {
-    /// An equal value.
-    #[cycle(copy)]
-    pub fn copy(&self, alloc: Global) -> Result<Further, AllocError>
-        ensures { IfOk result (λ copy. copy ≡ self.now) }
-    {
-        Ok(Further {
-            by: self.by,
-            all: self.all,
-            select: self.select.copy(alloc)?,
-        })
-    }
-}
-
-impl Select {
-    /// An equal value.
-    #[cycle(copy)]
-    pub fn copy(&self, alloc: Global) -> Result<Select, AllocError>
-        ensures { IfOk result (λ copy. copy ≡ self.now) }
-    {
-        Ok(Select {
-            distinct: self.distinct,
-            list: self.list.copy(alloc)?,
-            from: copy_chains(alloc, self.from.as_slice())?,
-            filter: copy_optional_expr(alloc, &self.filter)?,
-            group_by: self.group_by.equal_copy(alloc)?,
-        })
-    }
-}
-
 impl SelectList {
     /// An equal value.
-    #[cycle(copy)]
     pub fn copy(&self, alloc: Global) -> Result<SelectList, AllocError>
         ensures { IfOk result (λ copy. copy ≡ self.now) }
     {
         match self {
             SelectList::Star => Ok(SelectList::Star),
-            SelectList::Listed(part) => Ok(SelectList::Listed(copy_select_items(
-                alloc,
-                part.as_slice(),
-            )?)),
+            SelectList::Listed(part) => Ok(SelectList::Listed(part.equal_copy(alloc)?)),
         }
     }
 }
 
 impl SelectItem {
     /// An equal value.
-    #[cycle(copy)]
     pub fn copy(&self, alloc: Global) -> Result<SelectItem, AllocError>
         ensures { IfOk result (λ copy. copy ≡ self.now) }
     {
@@ -425,22 +277,8 @@ impl SelectItem {
     }
 }
 
-impl Chain {
-    /// An equal value.
-    #[cycle(copy)]
-    pub fn copy(&self, alloc: Global) -> Result<Chain, AllocError>
-        ensures { IfOk result (λ copy. copy ≡ self.now) }
-    {
-        Ok(Chain {
-            first: self.first.copy()?,
-            joins: copy_joins(alloc, self.joins.as_slice())?,
-        })
-    }
-}
-
 impl Join {
     /// An equal value.
-    #[cycle(copy)]
     pub fn copy(&self, alloc: Global) -> Result<Join, AllocError>
         ensures { IfOk result (λ copy. copy ≡ self.now) }
     {
@@ -456,6 +294,60 @@ impl Join {
 
 impl EqualCopy for Expr {
     fn equal_copy(&self, alloc: Global) -> Result<Expr, AllocError> {
+        self.copy(alloc)
+    }
+}
+
+impl EqualCopy for Query {
+    fn equal_copy(&self, alloc: Global) -> Result<Query, AllocError> {
+        self.copy(alloc)
+    }
+}
+
+impl EqualCopy for Negation {
+    fn equal_copy(&self, alloc: Global) -> Result<Negation, AllocError> {
+        self.copy(alloc)
+    }
+}
+
+impl EqualCopy for Tail {
+    fn equal_copy(&self, alloc: Global) -> Result<Tail, AllocError> {
+        self.copy(alloc)
+    }
+}
+
+impl EqualCopy for Added {
+    fn equal_copy(&self, alloc: Global) -> Result<Added, AllocError> {
+        self.copy(alloc)
+    }
+}
+
+impl EqualCopy for Multiplied {
+    fn equal_copy(&self, alloc: Global) -> Result<Multiplied, AllocError> {
+        self.copy(alloc)
+    }
+}
+
+impl EqualCopy for Arm {
+    fn equal_copy(&self, alloc: Global) -> Result<Arm, AllocError> {
+        self.copy(alloc)
+    }
+}
+
+impl EqualCopy for SelectItem {
+    fn equal_copy(&self, alloc: Global) -> Result<SelectItem, AllocError> {
+        self.copy(alloc)
+    }
+}
+
+impl EqualCopy for Chain {
+    fn equal_copy(&self, alloc: Global) -> Result<Chain, AllocError> {
+        self.copy(alloc)
+    }
+}
+
+impl EqualCopy for Join {
+    fn equal_copy(&self, alloc: Global) -> Result<Join, AllocError> {
         self.copy(alloc)
     }
 }

@@ -6,8 +6,7 @@ use super::{
     Added, Arm, Chain, Conjunction, Expr, Factor, Further, Join, Multiplied, Negation, Operand,
     Predicate, Query, Select, SelectItem, SelectList, Sum, Tail, Term,
 };
-use crate::sameness::Same;
-use sqlite_items::{Boxed, Items};
+use sql_names::{Boxed, Items, Same};
 
 #[cycle(same)]
 fn same_conjunctions(list: &Items<Conjunction>, other: &Items<Conjunction>) -> bool
@@ -197,7 +196,7 @@ impl Expr {
     pub fn same(&self, other: &Expr) -> bool
         ensures { IsTrue result ↔ (self.now ≡ other.now) }
     {
-        same_conjunctions(&self.any, &other.any)
+        same_conjunctions(self.any.get(), other.any.get())
     }
 }
 
@@ -402,7 +401,8 @@ impl Query {
     pub fn same(&self, other: &Query) -> bool
         ensures { IsTrue result ↔ (self.now ≡ other.now) }
     {
-        self.first.same(&other.first) && same_further(&self.others, &other.others)
+        self.first.get().same(other.first.get())
+            && same_further(self.others.get(), other.others.get())
     }
 }
 

@@ -1,5 +1,5 @@
 use Rattle.svc_io.proofs.Told.{GotFront-before, Puts-after}
-use Rattle.sql_text.specs.Texts.{object_text}
+use Rattle.sql_spelling.specs.Texts.{object_text}
 use Rattle.ddl_service.proofs.items.write_object_of.Goals as goal
 
 pub returns-in-Err-clause-bytes : goal.returns-in-Err-clause-bytes

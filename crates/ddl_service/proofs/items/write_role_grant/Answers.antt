@@ -1,6 +1,6 @@
 use Rattle.std.proofs.Common.{◌++◌, codes}
 use Rattle.svc_io.proofs.Told.{Got-append, GotFront-before, GotFront-after, Puts-after}
-use Rattle.sql_text.specs.Texts.{name_text}
+use Rattle.sql_spelling.specs.Texts.{name_text}
 use Rattle.cat_items.specs.ItemTexts.{auth_text}
 use Rattle.ddl_service.proofs.items.write_role_grant.Goals as goal
 

@@ -1,6 +1,6 @@
 use Rattle.std.proofs.Common.{codes}
 use Rattle.svc_io.proofs.Told.{GotFront-before, Puts-after}
-use Rattle.sql_text.specs.Texts.{name_text}
+use Rattle.sql_spelling.specs.Texts.{name_text}
 use Rattle.ddl_service.proofs.names.write_point.Goals as goal
 
 pub returns-in-Err-clause-bytes : goal.returns-in-Err-clause-bytes

@@ -1,7 +1,7 @@
 use Rattle.std.proofs.Common.{[], ◌∷◌, ◌++◌, take, get_or, flat_map, take_all}
 use Rattle.svc_io.proofs.Told.{GotFront-before, GotFront-after, Puts-after}
 use Rattle.ddl_service.specs.Printed.{doubled}
-use Rattle.sql_text.specs.Texts.{quoted}
+use Rattle.sql_spelling.specs.Texts.{quoted}
 use Rattle.ddl_service.proofs.Quoted.{quoted-split}
 use Rattle.ddl_service.proofs.names.write_quoted.Goals as goal
 

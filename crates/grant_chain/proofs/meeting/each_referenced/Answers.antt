@@ -1,7 +1,7 @@
 use Rattle.std.proofs.Common.{ℕ, List, false, sym, subst, refl, ◌∙◌}
 use Rattle.std.specs.Option.{option_copied}
 use Rattle.std.proofs.lemmas.Bool.{false≢true}
-use Rattle.sql_tree.specs.declared.object.Object.{Object}
+use Rattle.sql_names.specs.declared.object.Object.{Object}
 use Rattle.cat_items.specs.declared.need.Auth.TheVariants.{Named}
 use Rattle.cat_items.specs.Rights.{Met, reference}
 use Rattle.role_graph.specs.Marked.{counted}

@@ -1,7 +1,7 @@
 use Rattle.std.proofs.Common.{◌↔◌, Option, None, sym, subst}
 use Rattle.std.specs.Bool.{IsTrue}
 use Rattle.std.specs.Option.{option_copied}
-use Rattle.sql_tree.specs.declared.object.Object.{Object}
+use Rattle.sql_names.specs.declared.object.Object.{Object}
 use Rattle.cat_items.specs.declared.need.Auth.TheVariants.{Named}
 use Rattle.cat_items.specs.Rights.{Met, path_of}
 use Rattle.cat_items.specs.SystemRights.{MetOnBase}

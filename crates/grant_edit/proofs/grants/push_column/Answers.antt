@@ -1,5 +1,5 @@
 use Rattle.std.proofs.Common.{[], ◌∷◌, ◌++◌, ◌≡◌, ap, refl, subst, ◌∙◌}
-use Rattle.sql_tree.specs.declared.object.Object.{Object}
+use Rattle.sql_names.specs.declared.object.Object.{Object}
 use Rattle.cat_items.specs.declared.item.Column.{Column}
 use Rattle.cat_items.specs.declared.need.Need.{Need}
 use Rattle.cat_items.specs.Needs.{column_need}

@@ -1,5 +1,5 @@
 use Rattle.std.proofs.Common.{◌≡◌, ◌-◌}
-use Rattle.sql_words.specs.declared.kind.Kind.TheVariants as k
+use Rattle.sql_spelling.specs.declared.kind.Kind.TheVariants as k
 use Rattle.sql_phrases.specs.NameParsers.{identifier, identifiers}
 use Rattle.sql_phrases.specs.Parsers.{separated_from}
 use Rattle.sql_phrases.proofs.names.identifiers.Given as goal

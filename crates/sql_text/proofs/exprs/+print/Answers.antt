@@ -1,9 +1,9 @@
 use Rattle.std.proofs.Common.{◌≡◌, ◌∙◌, ◌++◌, sym, ap, codes}
-use Rattle.sql_text.specs.Texts.{T, table_text}
+use Rattle.sql_spelling.specs.Texts.{T, table_text}
 use Rattle.sql_text.specs.Printing.{join_text}
 use Rattle.sql_tree.specs.declared.expr.Join.{Join}
 use Rattle.sql_tree.specs.declared.expr.Join.TheVariants as joins
-use Rattle.sql_tree.specs.declared.column.TableReference.{TableReference}
+use Rattle.sql_names.specs.declared.column.TableReference.{TableReference}
 use Rattle.sql_text.proofs.Appends.{on_ok, after_two}
 use Rattle.sql_text.proofs.Equations.{text_Cross}
 use Rattle.sql_text.proofs.exprs.+print.Goals as goal

@@ -1,6 +1,6 @@
 use Rattle.std.proofs.Common.{◌≡◌, ◌++◌, take, map, codes}
 use Rattle.std.specs.List.{flat_map}
-use Rattle.sql_text.specs.Texts.{reference_text}
+use Rattle.sql_spelling.specs.Texts.{reference_text}
 use Rattle.sql_text.proofs.exprs.put_group.Given as goal
 
 abbrev pub invariant-loop-one : goal.invariant-loop-one

@@ -1,5 +1,5 @@
 use Rattle.std.proofs.Common.{List, subst, sym}
-use Rattle.sql_tree.specs.declared.object.Object.{Object}
+use Rattle.sql_names.specs.declared.object.Object.{Object}
 use Rattle.edit_rules.specs.First.{IsTested}
 use Rattle.edit_rules.specs.Names.{object_in}
 use Rattle.table_parts.specs.declared.parts.Part.{Part}

@@ -1,5 +1,5 @@
 use Rattle.std.proofs.Common.{[], ◌∷◌, ◌++◌, subst}
-use Rattle.sql_tree.specs.declared.object.Object.{Object}
+use Rattle.sql_names.specs.declared.object.Object.{Object}
 use Rattle.edit_rules.specs.First.{HasPassed}
 use Rattle.table_names.specs.Given.{unknown_columns, unknown_target}
 use Rattle.table_names.proofs.PassedLemmas.{passed_behind}

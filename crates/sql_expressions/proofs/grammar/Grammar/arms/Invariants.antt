@@ -1,5 +1,5 @@
 use Rattle.std.proofs.Common.{◌≡◌, ◌-◌}
-use Rattle.sql_words.specs.declared.kind.Kind.TheVariants as k
+use Rattle.sql_spelling.specs.declared.kind.Kind.TheVariants as k
 use Rattle.sql_phrases.specs.Parsers.{separated, separated_from}
 use Rattle.sql_expressions.specs.ExpressionParsers.{expr_within, arm}
 use Rattle.sql_expressions.proofs.grammar.Grammar.arms.Given as goal

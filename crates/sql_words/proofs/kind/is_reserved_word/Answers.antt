@@ -1,7 +1,0 @@
-use Rattle.std.proofs.Common.{◌∙◌, ap}
-use Rattle.sql_words.specs.Kinds.{is_reserved}
-use Rattle.sql_words.proofs.ReservedWords.{reserved-by-list}
-use Rattle.sql_words.proofs.kind.is_reserved_word.Goals as goal
-
-pub returns : goal.returns
-returns c = c.is_reserved.ensures ∙ (ap is_reserved c.keyword.ensures ∙ reserved-by-list c.args.text.now)
