@@ -16,7 +16,7 @@ use Rattle.support_laws.proofs.Settled.{one_new, new_is_good}
 use Rattle.new_catalogues.specs.Further.{IsLeastFurther}
 use Rattle.new_catalogues.specs.Width.{HasMoreColumns, IsLeastWide}
 use Rattle.edit_rules.specs.First.{First, Passes, IsTested, Tested}
-use Rattle.edit_rules.specs.Sound.{IsSound}
+use Rattle.edit_laws.specs.Sound.{IsSound}
 use Rattle.edit_rules.proofs.FirstLaws.{passes_none, passes_more}
 use Rattle.catalogue_edits.specs.declared.warning.Warning.{Warning}
 use Rattle.catalogue_edits.specs.Limits.{too_many_items, too_many_columns}

@@ -3,7 +3,7 @@
 ghost use Rattle.std.specs.Prelude.{◌∷◌, []};
 ghost use Rattle.cat_items.specs.Edits.{IsNew};
 ghost use Rattle.edit_rules.specs.First.{HasPassed, IsTested};
-ghost use Rattle.edit_rules.specs.Sound.{IsSound};
+ghost use Rattle.edit_laws.specs.Sound.{IsSound};
 ghost use Rattle.catalogue_edits.specs.Limits.{too_many_columns, too_many_items};
 ghost use Rattle.catalogue_edits.specs.Restrict.{still_needed};
 ghost use Rattle.catalogue_edits.specs.Revisions.{outcome_refusals};

@@ -4,7 +4,7 @@ ghost use Rattle.std.specs.Prelude.{◌≡◌, [], IfOk, IsTrue, None};
 ghost use Rattle.cat_items.specs.Good.{IsGood};
 ghost use Rattle.define_edit.specs.Creations.{HasForms};
 ghost use Rattle.edit_rules.specs.First.{IsTested};
-ghost use Rattle.edit_rules.specs.Sound.{IsSound};
+ghost use Rattle.edit_laws.specs.Sound.{IsSound};
 ghost use Rattle.catalogue_edits.specs.Restrict as restrict;
 ghost use Rattle.catalogue_edits.specs.Statements.{IsBuiltEdit, IsEditOf, edit_refusals};
 ghost use Rattle.catalogue_edits.specs.Warnings.{IsWarning, WarnsWhere};

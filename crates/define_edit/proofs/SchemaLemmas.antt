@@ -29,7 +29,7 @@ use Rattle.edit_laws.proofs.Shapes.{shape_of_plain, keeps_without_columns}
 use Rattle.edit_laws.proofs.GoodCatalogues.{good_order}
 use Rattle.edit_rules.specs.First.{First, Passes}
 use Rattle.edit_rules.specs.Names.{unknown_authorization}
-use Rattle.edit_rules.specs.Sound.{IsSound}
+use Rattle.edit_laws.specs.Sound.{IsSound}
 use Rattle.edit_rules.proofs.FirstLaws.{passes_rest, passes_that}
 use Rattle.define_edit.specs.CreatedSchemas.{adding_schema, create_schema_edit, create_schema_refusals, not_owner_to_be, reserved_schema, schema_exists, schema_name, schema_owner, schema_refusals}
 

@@ -3,7 +3,7 @@
 ghost use Rattle.std.specs.Prelude.{◌↔◌, IfOk, IsTrue};
 ghost use Rattle.cat_items.specs.Good.{IsGood};
 ghost use Rattle.edit_rules.specs.First.{IsTested};
-ghost use Rattle.edit_rules.specs.Sound.{IsSound};
+ghost use Rattle.edit_laws.specs.Sound.{IsSound};
 ghost use Rattle.define_edit.specs.Creations.{HasForms, IsBuiltCreation, IsCreation, creation_refusals};
 
 use crate::schemas::create_schema;

@@ -4,7 +4,7 @@ ghost use Rattle.std.specs.Prelude.{◌≡◌, ◌⊎◌, ◌↔◌, ◌∷◌, 
 ghost use Rattle.cat_items.specs.Good.{IsGood};
 ghost use Rattle.edit_rules.specs.First.{HasPassed, IsTested};
 ghost use Rattle.edit_rules.specs.Owners.{IsCurrentRole};
-ghost use Rattle.edit_rules.specs.Sound.{IsSound};
+ghost use Rattle.edit_laws.specs.Sound.{IsSound};
 ghost use Rattle.define_edit.specs.CreatedSchemas as spec;
 
 use cat_items::{Catalogue, Edit, EditError, Item, Refusal, Schema, Shared, Who};

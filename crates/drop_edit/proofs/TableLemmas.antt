@@ -30,11 +30,11 @@ use Rattle.edit_laws.specs.Kinds.{IsKept, taking}
 use Rattle.edit_laws.proofs.Fits.{edited_of_taking, fit_of_taking, held_gone, grantable_gone}
 use Rattle.edit_laws.proofs.GoodCatalogues.{good_order}
 use Rattle.edit_laws.proofs.Shapes.{shape_of_taking}
-use Rattle.edit_lists.specs.Chosen.{AreChosen}
+use Rattle.edit_rules.specs.Chosen.{AreChosen}
 use Rattle.edit_rules.specs.First.{First, IsTested, Passes}
 use Rattle.edit_rules.specs.Names.{object_in, unknown_base_table}
 use Rattle.edit_rules.specs.Owners.{not_owner}
-use Rattle.edit_rules.specs.Sound.{IsSound}
+use Rattle.edit_laws.specs.Sound.{IsSound}
 use Rattle.edit_rules.proofs.FirstLaws.{exit_of_others, passes_more, passes_that}
 use Rattle.drop_edit.specs.DroppedTables.{BelongsTo, IsOnTable, IsTableAction, IsTableDrop, drop_table_refusals, refusals_by_table}
 

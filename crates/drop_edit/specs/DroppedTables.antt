@@ -11,7 +11,7 @@ use Rattle.cat_items.specs.declared.item.Item.{Item}
 use Rattle.cat_items.specs.declared.item.Item.TheVariants as item
 use Rattle.cat_items.specs.declared.need.Need.{Need}
 use Rattle.cat_items.specs.Rights.{path_of}
-use Rattle.edit_lists.specs.Chosen.{IsTaking}
+use Rattle.edit_rules.specs.Chosen.{IsTaking}
 use Rattle.edit_rules.specs.Names.{object_in, unknown_base_table}
 use Rattle.edit_rules.specs.Owners.{not_owner}
 

@@ -10,7 +10,7 @@ use Rattle.cat_items.specs.declared.edit.Refusal.{Refusal}
 use Rattle.cat_items.specs.declared.edit.Who.{Who}
 use Rattle.cat_items.specs.declared.item.Item.{Item}
 use Rattle.edit_rules.specs.Names.{object_in}
-use Rattle.role_edit.specs.DroppedRoles.{drop_role_refusals, IsRoleDrop}
+use Rattle.drop_edit.specs.DroppedRoles.{drop_role_refusals, IsRoleDrop}
 use Rattle.drop_edit.specs.DroppedTables.{IsTableDrop, drop_table_refusals}
 
 -- the kinds of objects whose DROP is built so far: base tables

@@ -1,2 +1,3 @@
+pub mod DroppedRoles
 pub mod DroppedTables
 pub mod Drops

@@ -3,12 +3,12 @@
 ghost use Rattle.std.specs.Prelude.{IfOk};
 ghost use Rattle.cat_items.specs.Good.{IsGood};
 ghost use Rattle.edit_rules.specs.First.{IsTested};
-ghost use Rattle.edit_rules.specs.Sound.{IsSound};
+ghost use Rattle.edit_laws.specs.Sound.{IsSound};
 ghost use Rattle.drop_edit.specs.Drops.{IsBuiltDrop, IsBuiltKind, IsDrop, IsDropOfKind, drop_refusals, refusals_of_kind};
 
+use crate::roles::drop_role;
 use crate::tables::drop_table;
 use cat_items::{Catalogue, Edit, EditError, Who};
-use role_edit::drop_role;
 use sql_tree::{DropKind, ObjectName, Statement};
 use std::alloc::Global;
 

@@ -2,6 +2,7 @@
 #![tactic(auto)]
 
 mod drops;
+mod roles;
 mod tables;
 
 pub use drops::edit_drop;

@@ -3,15 +3,14 @@
 ghost use Rattle.std.specs.Prelude.{◌≡◌, ◌↔◌, IfOk, IsTrue};
 ghost use Rattle.cat_items.specs.Good.{IsGood};
 ghost use Rattle.cat_items.specs.Rights as rights;
-ghost use Rattle.edit_lists.specs.Chosen.{AreChosen};
+ghost use Rattle.edit_rules.specs.Chosen.{AreChosen};
 ghost use Rattle.edit_rules.specs.First.{IsTested};
 ghost use Rattle.edit_rules.specs.Names as names;
-ghost use Rattle.edit_rules.specs.Sound.{IsSound};
+ghost use Rattle.edit_laws.specs.Sound.{IsSound};
 ghost use Rattle.drop_edit.specs.DroppedTables as spec;
 
 use cat_items::{Catalogue, Edit, EditError, Item, Need, Who};
-use edit_lists::{Chooses, chosen};
-use edit_rules::{object_in, path_of, test_base_table, test_owner};
+use edit_rules::{Chooses, chosen, object_in, path_of, test_base_table, test_owner};
 use sql_tree::{Action, Items, Object, ObjectName, Path};
 use std::alloc::{AllocError, Global};
 

@@ -1,3 +1,4 @@
 pub mod Additions
 pub mod Columns
 pub mod Kinds
+pub mod Sound

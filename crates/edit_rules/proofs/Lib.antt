@@ -1,7 +1,11 @@
+pub mod ChosenItems
 pub mod FirstLaws
+pub mod ItemKeys
 pub mod Lists
 pub mod NameLemmas
 pub mod OwnerLemmas
 pub mod PrivilegeLemmas
+pub mod PutItems
 pub mod Settled
+pub mod SettledEdits
 pub mod TestLists

@@ -11,7 +11,7 @@ use Rattle.cat_items.specs.declared.item.Item.{Item}
 use Rattle.cat_items.specs.declared.need.Need.{Need}
 use Rattle.cat_items.specs.Order.{need_cmp}
 use Rattle.cat_items.proofs.OrderLemmas.{need_cmp-total}
-use Rattle.edit_lists.proofs.ItemKeys.{need_cmp-is}
+use Rattle.edit_rules.proofs.ItemKeys.{need_cmp-is}
 use Rattle.edit_rules.specs.Grantors.{IsGrantor}
 use Rattle.edit_rules.specs.Privileges.{IsLeastNeed, lacks_privilege}
 use Rattle.edit_rules.proofs.FirstLaws.{IsSettled}

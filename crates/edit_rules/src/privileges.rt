@@ -1,7 +1,8 @@
 //! Privileges that a statement needs.
 
-ghost use Rattle.std.specs.Prelude.{◌↔◌, ◌∷◌, [], IsTrue};
+ghost use Rattle.std.specs.Prelude.{◌≡◌, ◌↔◌, ◌∷◌, [], IfOk, IsTrue};
 ghost use Rattle.std.specs.Option.{option_copied};
+ghost use Rattle.cat_items.specs.Rights.{admin};
 ghost use Rattle.role_graph.specs.Roles.{IsRoomFor};
 ghost use Rattle.edit_rules.specs.First.{HasPassed};
 ghost use Rattle.edit_rules.specs.Privileges.{IsBehind, IsLeastUnmet, lacks_privilege};
@@ -9,8 +10,19 @@ ghost use Rattle.edit_rules.specs.Privileges.{IsBehind, IsLeastUnmet, lacks_priv
 use cat_items::{Catalogue, EditError, Need, Refusal};
 use grant_chain::met_by;
 use role_graph::{Actor, Walk};
-use sql_tree::{Items, Name};
-use std::alloc::Global;
+use sql_tree::{Action, Items, Name, Path};
+use std::alloc::{AllocError, Global};
+
+/// The admin option of a role, as a need. It takes no memory; `Err` is the end of a count of owners.
+pub fn admin_need(role: &Name) -> Result<Need, AllocError>
+    ensures { IfOk result (λ need. need ≡ admin role.now) }
+{
+    Ok(Need {
+        action: Action::Admin,
+        on: Path::one(role.copy()?),
+        column: None,
+    })
+}
 
 /// Whether a need doesn't come before the least so far, in the order of needs. Where there is none so far, each need does.
 /// It takes no memory.

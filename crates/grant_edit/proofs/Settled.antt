@@ -16,8 +16,8 @@ use Rattle.cat_items.specs.declared.item.Item.{Item}
 use Rattle.edit_rules.specs.Names.{unknown_column}
 use Rattle.edit_rules.proofs.FirstLaws.{IsSettled, AreSettled, settled_append, settled_each, settled_map}
 use Rattle.edit_rules.proofs.Settled.{grantor_settled, least_settled}
-use Rattle.edit_lists.specs.Chosen.{IsAdding, IsTaking}
-use Rattle.edit_lists.proofs.SettledEdits.{adding_settled, taking_settled}
+use Rattle.edit_rules.specs.Chosen.{IsAdding, IsTaking}
+use Rattle.edit_rules.proofs.SettledEdits.{adding_settled, taking_settled}
 use Rattle.grant_edit.specs.Grants.{IsGrant, IsGranted}
 use Rattle.grant_edit.specs.Named.{named_grantees}
 use Rattle.grant_edit.specs.Revokes.{IsIdentified}

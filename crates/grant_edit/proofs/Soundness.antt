@@ -16,13 +16,13 @@ use Rattle.cat_items.specs.Good.{IsGood}
 use Rattle.cat_items.specs.Order.{item_cmp}
 use Rattle.cat_items.specs.Shape.{IsColumnOf}
 use Rattle.cat_items.proofs.OrderLemmas.{item_cmp-total}
-use Rattle.edit_rules.specs.Sound.{IsSound}
+use Rattle.edit_laws.specs.Sound.{IsSound}
 use Rattle.edit_laws.specs.Additions.{HasNoShape}
 use Rattle.edit_laws.specs.Kinds.{adding, taking, IsBySystem}
 use Rattle.edit_laws.proofs.Fits.{edited_of_taking, fit_of_adding, fit_of_taking, gone_without_system}
 use Rattle.edit_laws.proofs.GoodCatalogues.{good_order}
 use Rattle.edit_laws.proofs.Shapes.{keeps_without_columns, plain_derived, right_is_no_column, shape_of_plain, shape_of_taking}
-use Rattle.edit_lists.specs.Chosen.{IsAdding, IsTaking}
+use Rattle.edit_rules.specs.Chosen.{IsAdding, IsTaking}
 use Rattle.grant_edit.specs.Revokes.{IsIdentified}
 use Rattle.grant_edit.proofs.RightLemmas.{same_right}
 

@@ -21,8 +21,8 @@ use Rattle.cat_items.specs.Catalogues.{IsInOrder}
 use Rattle.cat_items.specs.Good.{IsGood}
 use Rattle.edit_rules.specs.First.{First, IsTested, Passes}
 use Rattle.edit_rules.specs.Grantors.{IsGrantor, no_current_role}
-use Rattle.edit_lists.specs.Chosen.{IsAdding}
-use Rattle.edit_rules.specs.Sound.{IsSound}
+use Rattle.edit_rules.specs.Chosen.{IsAdding}
+use Rattle.edit_laws.specs.Sound.{IsSound}
 use Rattle.edit_rules.proofs.FirstLaws.{passes_none, passes_more, passes_that, passes_both, error_of_first, error_of_others, tested_by_others}
 use Rattle.edit_rules.proofs.Settled.{grantor_settled}
 use Rattle.grant_edit.specs.declared.grants.Granted.{Granted}

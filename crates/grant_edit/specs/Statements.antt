@@ -15,7 +15,7 @@ use Rattle.cat_items.specs.declared.need.Need.{Need}
 use Rattle.edit_rules.specs.Grantors.{IsGrantor, no_current_role}
 use Rattle.edit_rules.specs.Names.{object_in}
 use Rattle.grant_edit.specs.declared.grants.Granting.{Granting}
-use Rattle.edit_lists.specs.Chosen.{IsAdding, IsTaking}
+use Rattle.edit_rules.specs.Chosen.{IsAdding, IsTaking}
 use Rattle.grant_edit.specs.Grants.{IsGrant, IsGranted, IsPartial, grants_nothing}
 use Rattle.grant_edit.specs.Named.{named_grantees, named_privileges}
 use Rattle.grant_edit.specs.Revokes.{IsIdentified}

@@ -6,7 +6,7 @@ ghost use Rattle.cat_items.specs.declared.need.Need.{Need};
 ghost use Rattle.cat_items.specs.Good.{IsGood};
 ghost use Rattle.cat_items.specs.Rights.{path_of};
 ghost use Rattle.edit_rules.specs.First.{IsTested};
-ghost use Rattle.edit_rules.specs.Sound.{IsSound};
+ghost use Rattle.edit_laws.specs.Sound.{IsSound};
 ghost use Rattle.grant_edit.specs.Grants.{IsGrantedBy, grants_nothing};
 ghost use Rattle.grant_edit.specs.Named as names;
 ghost use Rattle.grant_edit.specs.Statements as spec;

@@ -23,8 +23,8 @@ use Rattle.sql_tree.specs.declared.rights.Grantor.{Grantor}
 use Rattle.sql_tree.specs.declared.rights.Grantor.TheVariants.{CurrentUser, CurrentRole}
 use Rattle.cat_items.specs.declared.edit.Who.{Who}
 use Rattle.edit_rules.specs.Grantors.{IsGrantor}
-use Rattle.edit_rules.specs.Sound.{IsSound}
-use Rattle.edit_lists.proofs.ItemKeys.{only_granted}
+use Rattle.edit_laws.specs.Sound.{IsSound}
+use Rattle.edit_rules.proofs.ItemKeys.{only_granted}
 use Rattle.edit_laws.specs.Additions.{AddsProperly}
 use Rattle.edit_laws.specs.Kinds.{adding, IsKept}
 use Rattle.edit_laws.proofs.Fits.{fit_of_adding}

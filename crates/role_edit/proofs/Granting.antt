@@ -15,9 +15,9 @@ use Rattle.cat_items.specs.Order.{item_cmp}
 use Rattle.cat_items.specs.Reach.{Has, GrantsRole, Leads}
 use Rattle.cat_items.specs.Shape.{NameSet, name_of, HasAllowedName, HasDerivedFields, HasProperLists, IsWellFormed, IsColumnOf}
 use Rattle.role_graph.specs.Cycles.{HasCycle, IsStep, StepsLead}
-use Rattle.edit_rules.specs.Sound.{IsSound}
-use Rattle.edit_lists.specs.Chosen.{AreAll, IsAdding, IsGranted}
-use Rattle.edit_lists.proofs.ItemKeys.{only_granted}
+use Rattle.edit_laws.specs.Sound.{IsSound}
+use Rattle.edit_rules.specs.Chosen.{AreAll, IsAdding, IsGranted}
+use Rattle.edit_rules.proofs.ItemKeys.{only_granted}
 use Rattle.edit_laws.specs.Additions.{AddsProperly, IsEitherAdded}
 use Rattle.edit_laws.specs.Kinds.{adding, IsKept}
 use Rattle.edit_laws.proofs.Fits.{fit_of_adding}

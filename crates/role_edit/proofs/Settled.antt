@@ -13,10 +13,9 @@ use Rattle.edit_rules.specs.Names.{unknown_authorization, unknown_role}
 use Rattle.edit_rules.specs.Privileges.{lacks_privilege}
 use Rattle.edit_rules.proofs.FirstLaws.{IsSettled, AreSettled, settled_append, settled_map}
 use Rattle.edit_rules.proofs.Settled.{grantor_settled, lacks_settled}
-use Rattle.edit_lists.specs.Chosen.{IsAdding, IsTaking}
-use Rattle.edit_lists.proofs.SettledEdits.{adding_settled, taking_settled}
+use Rattle.edit_rules.specs.Chosen.{IsAdding, IsTaking}
+use Rattle.edit_rules.proofs.SettledEdits.{adding_settled, taking_settled}
 use Rattle.role_edit.specs.CreatedRoles.{create_role_refusals, creating_role, IsRoleCreation}
-use Rattle.role_edit.specs.DroppedRoles.{drop_role_refusals, IsOfRole, IsRoleDrop}
 use Rattle.role_edit.specs.GrantedRoles.{name_refusals, grant_roles_refusals, lacks_admin_option, IsGrantedRole, IsRoleGrantEdit}
 use Rattle.role_edit.specs.RevokedRoles.{revoke_roles_refusals, IsIdentified, IsRoleRevokeEdit}
 
@@ -41,9 +40,6 @@ grant_refusals_settled c who parts =
 pub revoke_refusals_settled : (c : List Item) (who : Who) (parts : RevokeRoles) → AreSettled (revoke_roles_refusals c who parts)
 revoke_refusals_settled c who parts = names_settled c who parts.roles parts.grantees parts.grantor
 
-pub drop_refusals_settled : (c : List Item) (who : Who) (role : List ℕ) → AreSettled (drop_role_refusals c who role)
-drop_refusals_settled c who role = ((λ a b p q. p.1 ∙ sym q.1), (lacks_settled c who.user (admin role ∷ []), tt))
-
 pub creation_settled : (c : List Item) (who : Who) (parts : CreateRole) (a b : Edit) → IsRoleCreation c who parts a → IsRoleCreation c who parts b → a ≡ b
 creation_settled c who parts a b p q = p.2 ∙ ap (creating_role parts.role) (grantor_settled c who parts.admin p.0 q.0 p.1 q.1) ∙ sym q.2
 
@@ -57,6 +53,3 @@ pub revoke_settled : (c : List Item) (who : Who) (parts : RevokeRoles) (a b : Ed
 revoke_settled c who parts a b p q =
     let same : p.0 ≡ q.0 = grantor_settled c who parts.grantor p.0 q.0 p.1 q.1 in
     taking_settled c (IsIdentified q.0 parts) a b (subst (λ n. IsTaking c (IsIdentified n parts) a) same p.2) q.2
-
-pub drop_settled : (c : List Item) (role : List ℕ) (a b : Edit) → IsRoleDrop c role a → IsRoleDrop c role b → a ≡ b
-drop_settled c role a b p q = taking_settled c (IsOfRole role) a b p q

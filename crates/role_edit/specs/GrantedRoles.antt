@@ -13,7 +13,7 @@ use Rattle.cat_items.specs.declared.item.RoleGrant.{RoleGrant}
 use Rattle.cat_items.specs.declared.need.Auth.TheVariants.{Named}
 use Rattle.cat_items.specs.Rights.{admin}
 use Rattle.role_graph.specs.Cycles.{HasCycle, IsStep}
-use Rattle.edit_lists.specs.Chosen.{IsAdding}
+use Rattle.edit_rules.specs.Chosen.{IsAdding}
 use Rattle.edit_rules.specs.Grantors.{IsGrantor, no_current_role}
 use Rattle.edit_rules.specs.Names.{unknown_authorization, unknown_role}
 use Rattle.edit_rules.specs.Privileges.{lacks_privilege}

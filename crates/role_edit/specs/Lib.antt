@@ -1,5 +1,4 @@
 pub mod CreatedRoles
-pub mod DroppedRoles
 pub mod GrantedRoles
 pub mod RevokedRoles
 pub mod RoleEdits

@@ -6,7 +6,7 @@ use Rattle.cat_items.specs.declared.edit.Refusal.{Refusal}
 use Rattle.cat_items.specs.declared.edit.Who.{Who}
 use Rattle.cat_items.specs.declared.item.Item.{Item}
 use Rattle.cat_items.specs.declared.item.Item.TheVariants.{RoleAuth, RoleAdmin}
-use Rattle.edit_lists.specs.Chosen.{IsTaking}
+use Rattle.edit_rules.specs.Chosen.{IsTaking}
 use Rattle.edit_rules.specs.Grantors.{IsGrantor}
 use Rattle.role_edit.specs.GrantedRoles.{name_refusals, IsGrantBy}
 

@@ -4,7 +4,7 @@ ghost use Rattle.std.specs.Prelude.{◌≡◌, ◌∷◌, [], IfOk};
 ghost use Rattle.cat_items.specs.Good.{IsGood};
 ghost use Rattle.edit_rules.specs.First.{HasPassed, IsTested};
 ghost use Rattle.edit_rules.specs.Grantors.{IsGrantor};
-ghost use Rattle.edit_rules.specs.Sound.{IsSound};
+ghost use Rattle.edit_laws.specs.Sound.{IsSound};
 ghost use Rattle.role_edit.specs.GrantedRoles as spec;
 
 use crate::lists::{admin_needs, role_grants};

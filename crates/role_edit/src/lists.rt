@@ -1,36 +1,16 @@
 //! Lists of role grants.
 
 ghost use Rattle.std.specs.Prelude.{◌≡◌, ◌↔◌, ◌⊎◌, ◌∷◌, [], OnOk, IfOk, Contains, map};
-ghost use Rattle.edit_lists.specs.Chosen.{AreAll};
+ghost use Rattle.edit_rules.specs.Chosen.{AreAll};
 ghost use Rattle.cat_items.specs.declared.item.Item.{Item};
 ghost use Rattle.cat_items.specs.declared.need.Auth.TheVariants.{Named};
 ghost use Rattle.cat_items.specs.Rights.{admin};
 ghost use Rattle.role_edit.specs.GrantedRoles.{IsGrantedRole};
 
 use cat_items::{Auth, Catalogue, Item, Need, RoleGrant, Shared};
-use edit_lists::put;
-use sql_tree::{Action, Items, Name, Path};
+use edit_rules::{admin_need, put};
+use sql_tree::{Items, Name};
 use std::alloc::{AllocError, Global};
-
-/// The admin option of a role, as a need.
-fn admin_need(role: &Name) -> Result<Need, AllocError>
-    ensures { IfOk result (λ need. need ≡ admin role.now) }
-{
-    Ok(Need {
-        action: Action::Admin,
-        on: Path::one(role.copy()?),
-        column: None,
-    })
-}
-
-/// The admin option of one role alone.
-pub fn only_admin(alloc: Global, role: &Name) -> Result<Items<Need>, AllocError>
-    ensures { IfOk result (λ needs. needs ≡ admin role.now ∷ []) }
-{
-    let mut needs = Items::new(alloc);
-    needs.push(admin_need(role)?)?;
-    Ok(needs)
-}
 
 /// The admin options of these roles, as needs.
 pub fn admin_needs(alloc: Global, roles: &Items<Name>) -> Result<Items<Need>, AllocError>

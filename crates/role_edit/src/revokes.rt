@@ -4,13 +4,13 @@ ghost use Rattle.std.specs.Prelude.{◌≡◌, ◌↔◌, IfOk, IsTrue, Contains
 ghost use Rattle.cat_items.specs.Good.{IsGood};
 ghost use Rattle.cat_items.specs.declared.need.Auth.TheVariants.{Named};
 ghost use Rattle.edit_rules.specs.First.{IsTested};
-ghost use Rattle.edit_rules.specs.Sound.{IsSound};
+ghost use Rattle.edit_laws.specs.Sound.{IsSound};
 ghost use Rattle.role_edit.specs.GrantedRoles.{IsGrantBy};
 ghost use Rattle.role_edit.specs.RevokedRoles as spec;
 
 use crate::names::grantor_of_roles;
 use cat_items::{Auth, Catalogue, Edit, EditError, Item, RoleGrant, Who};
-use edit_lists::{Chooses, chosen};
+use edit_rules::{Chooses, chosen};
 use sql_tree::{Items, Name, RevokeRoles};
 use std::alloc::Global;
 

@@ -5,8 +5,8 @@ use Rattle.sql_tree.specs.declared.statement.CreateTable.{CreateTable}
 use Rattle.cat_items.specs.declared.edit.Edit.{Edit}
 use Rattle.cat_items.specs.declared.edit.Who.{Who}
 use Rattle.cat_items.specs.declared.item.Item.{Item}
-use Rattle.edit_lists.specs.Chosen.{IsAdding}
-use Rattle.edit_lists.proofs.SettledEdits.{adding_settled}
+use Rattle.edit_rules.specs.Chosen.{IsAdding}
+use Rattle.edit_rules.proofs.SettledEdits.{adding_settled}
 use Rattle.edit_rules.specs.Names.{object_in}
 use Rattle.edit_rules.proofs.FirstLaws.{AreSettled}
 use Rattle.table_parts.specs.declared.parts.Part.{Part}

@@ -23,9 +23,9 @@ use Rattle.edit_laws.specs.Kinds.{adding, IsKept}
 use Rattle.edit_laws.proofs.Fits.{fit_of_adding}
 use Rattle.edit_laws.proofs.GoodCatalogues.{foreign_key_stands, good_order, key_table_stands}
 use Rattle.edit_laws.proofs.Shapes.{keeps_without_columns, no_cycle_of_old, old_role_auths, shape_of_edited, view_columns_kept}
-use Rattle.edit_lists.specs.Chosen.{IsAdding}
+use Rattle.edit_rules.specs.Chosen.{IsAdding}
 use Rattle.edit_rules.specs.Names.{IsConstraint}
-use Rattle.edit_rules.specs.Sound.{IsSound}
+use Rattle.edit_laws.specs.Sound.{IsSound}
 use Rattle.edit_rules.proofs.NameLemmas.{base_table_there}
 use Rattle.table_parts.specs.declared.parts.Part.{Part}
 use Rattle.table_parts.specs.declared.parts.Part.TheVariants as parts

@@ -17,9 +17,9 @@ use Rattle.cat_items.specs.declared.item.Item.{Item}
 use Rattle.cat_items.specs.declared.item.Item.TheVariants as item
 use Rattle.cat_items.specs.declared.item.Key.{Key}
 use Rattle.cat_items.specs.Good.{IsGood}
-use Rattle.edit_lists.specs.Chosen.{AreAll, IsAdding}
+use Rattle.edit_rules.specs.Chosen.{AreAll, IsAdding}
 use Rattle.edit_rules.specs.First.{First, HasPassed, IsTested, Passes}
-use Rattle.edit_rules.specs.Sound.{IsSound}
+use Rattle.edit_laws.specs.Sound.{IsSound}
 use Rattle.edit_rules.proofs.FirstLaws.{exit_of_first, exit_of_others, passes_both, passes_first, passes_one, passes_rest}
 use Rattle.table_parts.specs.declared.parts.Part.{Part}
 use Rattle.table_parts.specs.Forms.{IsProperPart}

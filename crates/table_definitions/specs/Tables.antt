@@ -6,7 +6,7 @@ use Rattle.cat_items.specs.declared.edit.Edit.{Edit}
 use Rattle.cat_items.specs.declared.edit.Refusal.{Refusal}
 use Rattle.cat_items.specs.declared.edit.Who.{Who}
 use Rattle.cat_items.specs.declared.item.Item.{Item}
-use Rattle.edit_lists.specs.Chosen.{IsAdding}
+use Rattle.edit_rules.specs.Chosen.{IsAdding}
 use Rattle.edit_rules.specs.Names.{object_in}
 use Rattle.table_parts.specs.declared.parts.Part.{Part}
 use Rattle.table_parts.specs.Parts.{parts_in}

@@ -6,7 +6,7 @@ ghost use Rattle.cat_items.specs.declared.item.Foreign.{Foreign};
 ghost use Rattle.cat_items.specs.declared.item.Item.{Item};
 ghost use Rattle.cat_items.specs.declared.item.Item.TheVariants as item;
 ghost use Rattle.cat_items.specs.declared.item.Key.{Key};
-ghost use Rattle.edit_lists.specs.Chosen.{AreAll};
+ghost use Rattle.edit_rules.specs.Chosen.{AreAll};
 ghost use Rattle.table_parts.specs.Columns as columns;
 ghost use Rattle.table_parts.specs.Parts.{columns_of};
 ghost use Rattle.table_definitions.specs.Built.{IsDataType};
@@ -14,7 +14,7 @@ ghost use Rattle.table_definitions.specs.Lists as lists;
 ghost use Rattle.table_definitions.specs.Made as spec;
 
 use cat_items::{Catalogue, Column, Foreign, Item, Key, Shared};
-use edit_lists::put;
+use edit_rules::put;
 use sql_tree::{ColumnDefinition, ColumnOption, ColumnType, Default, Items, Object, SqlType};
 use std::alloc::{AllocError, Global};
 use table_parts::{Part, default_in, is_not_null};

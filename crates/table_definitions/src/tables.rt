@@ -3,7 +3,7 @@
 ghost use Rattle.std.specs.Prelude.{IfOk, Contains};
 ghost use Rattle.cat_items.specs.Good.{IsGood};
 ghost use Rattle.edit_rules.specs.First.{IsTested};
-ghost use Rattle.edit_rules.specs.Sound.{IsSound};
+ghost use Rattle.edit_laws.specs.Sound.{IsSound};
 ghost use Rattle.table_parts.specs.declared.parts.Part.{Part};
 ghost use Rattle.table_parts.specs.Forms.{HasTableForms, IsProperPart};
 ghost use Rattle.table_rules.specs.Rules.{table_refusals};

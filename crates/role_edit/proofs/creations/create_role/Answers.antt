@@ -1,7 +1,7 @@
 use Rattle.std.proofs.Common.{[], ◌∷◌, refl, sym, subst, inl}
 use Rattle.cat_items.specs.declared.edit.Refusal.TheVariants.{NameReserved, NameExists}
 use Rattle.edit_rules.specs.Grantors.{no_current_role}
-use Rattle.edit_rules.specs.Sound.{IsSound}
+use Rattle.edit_laws.specs.Sound.{IsSound}
 use Rattle.edit_rules.proofs.FirstLaws.{passes_first, passes_rest, passes_that}
 use Rattle.role_edit.specs.CreatedRoles.{reserved_role, authorization_exists, IsReservedRole, IsTaken}
 use Rattle.role_edit.proofs.Creating.{admin_is_another, sound_of_creating}

@@ -1,6 +1,6 @@
 use Rattle.std.proofs.Common.{ap}
 use Rattle.cat_items.specs.declared.item.Item.TheVariants.{RoleAuth, RoleAdmin}
-use Rattle.edit_lists.proofs.ItemKeys.{one_granted}
+use Rattle.edit_rules.proofs.ItemKeys.{one_granted}
 use Rattle.role_edit.proofs.RoleLists.{put_auth, put_both}
 use Rattle.role_edit.proofs.lists.put_grant.Goals as goal
 

@@ -7,7 +7,7 @@ use Rattle.cat_items.specs.declared.item.Item.{Item}
 use Rattle.cat_items.specs.declared.item.Item.TheVariants.{Role, RoleAuth, RoleAdmin, Held, Grantable}
 use Rattle.cat_items.specs.declared.need.Auth.TheVariants.{Named}
 use Rattle.cat_items.specs.Rights.{admin}
-use Rattle.edit_lists.specs.Chosen.{IsTaking}
+use Rattle.edit_rules.specs.Chosen.{IsTaking}
 use Rattle.edit_rules.specs.Names.{unknown_role}
 use Rattle.edit_rules.specs.Privileges.{lacks_privilege}
 

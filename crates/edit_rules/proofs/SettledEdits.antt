@@ -1,10 +1,11 @@
--- What an edit adds, or takes, settles it.
+-- What an edit adds, or takes, settles it; an edit that takes does nothing else.
 use Rattle.std.proofs.Common.{◌≡◌, ◌↔◌, List, [], sym, ◌∙◌}
 use Rattle.std.specs.List.{Contains}
 use Rattle.cat_items.specs.declared.edit.Edit.{Edit}
 use Rattle.cat_items.specs.declared.item.Item.{Item}
 use Rattle.cat_items.proofs.CatalogueLemmas.{same_in_order}
-use Rattle.edit_lists.specs.Chosen.{AreAll, IsAdding, IsTaking}
+use Rattle.finite_chains.specs.Chains.{IsWithin}
+use Rattle.edit_rules.specs.Chosen.{AreAll, AreChosen, IsAdding, IsTaking}
 
 all_settled : (P : Item → Type 0) (a b : List Item) → AreAll P a → AreAll P b → a ≡ b
 all_settled P a b p q = same_in_order a b p.order q.order (λ x. (λ h. (q.members x).1 ((p.members x).0 h), λ h. (p.members x).1 ((q.members x).0 h)))
@@ -22,3 +23,10 @@ taking_settled c P a b p q =
     let changed : a.changed ≡ b.changed = p.changed ∙ sym q.changed in
     let added : a.added ≡ b.added = p.added ∙ sym q.added in
     λ i. record { target = target i; changed = changed i; added = added i }
+
+-- an edit that takes is this one
+pub taking_is : (c : List Item) (P : Item → Type 0) (edit : Edit) → IsTaking c P edit → edit ≡ record { target = edit.target; changed = []; added = [] }
+taking_is c P edit is = λ i. record { target = edit.target; changed = is.changed i; added = is.added i }
+
+chosen_within : (c : List Item) (P : Item → Type 0) (target : List Item) → AreChosen c P target → IsWithin target c
+chosen_within c P target chosen x h = ((chosen.members x).0 h).0

@@ -5,7 +5,7 @@ use Rattle.edit_rules.specs.First.{HasPassed}
 use Rattle.edit_rules.specs.Names.{unknown_role}
 use Rattle.edit_rules.specs.Privileges.{lacks_privilege}
 use Rattle.edit_rules.proofs.FirstLaws.{tested_by_others}
-use Rattle.role_edit.proofs.drops.test_drop.Goals as goal
+use Rattle.drop_edit.proofs.roles.test_drop.Goals as goal
 
 pub returns : goal.returns
 returns c =

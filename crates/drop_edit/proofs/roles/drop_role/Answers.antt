@@ -4,8 +4,8 @@ use Rattle.cat_items.specs.Rights.{admin}
 use Rattle.edit_rules.specs.Names.{unknown_role}
 use Rattle.edit_rules.specs.Privileges.{lacks_privilege}
 use Rattle.edit_rules.proofs.FirstLaws.{passes_first}
-use Rattle.role_edit.proofs.Taking.{sound_of_dropping}
-use Rattle.role_edit.proofs.drops.drop_role.Goals as goal
+use Rattle.drop_edit.proofs.RoleLemmas.{sound_of_dropping}
+use Rattle.drop_edit.proofs.roles.drop_role.Goals as goal
 
 pub returns-clause-sound : goal.returns-clause-sound
 returns-clause-sound c =

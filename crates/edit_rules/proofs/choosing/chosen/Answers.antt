@@ -1,8 +1,8 @@
 use Rattle.std.proofs.Common.{refl}
 use Rattle.std.proofs.lemmas.Bool.{false≢true}
-use Rattle.edit_lists.proofs.ChosenItems.{chosen_more, chosen_less}
-use Rattle.edit_lists.proofs.choosing.chosen.Goals as goal
-use Rattle.edit_lists.proofs.choosing.chosen.Goals.{then-chooses+in_ok-copy+in_ok-push, else-chooses}
+use Rattle.edit_rules.proofs.ChosenItems.{chosen_more, chosen_less}
+use Rattle.edit_rules.proofs.choosing.chosen.Goals as goal
+use Rattle.edit_rules.proofs.choosing.chosen.Goals.{then-chooses+in_ok-copy+in_ok-push, else-chooses}
 
 pub loop-x-preserved : goal.loop-x-preserved
 loop-x-preserved g c =

@@ -1,6 +1,6 @@
 use Rattle.std.proofs.Common.{take}
-use Rattle.edit_lists.specs.Chosen.{AreChosen}
-use Rattle.edit_lists.proofs.choosing.chosen.Given as goal
+use Rattle.edit_rules.specs.Chosen.{AreChosen}
+use Rattle.edit_rules.proofs.choosing.chosen.Given as goal
 
 abbrev pub invariant-loop-x : goal.invariant-loop-x
 invariant-loop-x g l = AreChosen (take l.x-index l.c.items) (g.T.Chooses.fits l.test) l.found.items

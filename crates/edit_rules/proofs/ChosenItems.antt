@@ -11,7 +11,7 @@ use Rattle.cat_items.specs.Catalogues.{IsInOrder}
 use Rattle.cat_items.specs.Order.{item_cmp}
 use Rattle.cat_items.proofs.CatalogueLemmas.{rising, in_order}
 use Rattle.cat_items.proofs.Rising.{rising_append, rising_left, rising_across}
-use Rattle.edit_lists.specs.Chosen.{AreChosen}
+use Rattle.edit_rules.specs.Chosen.{AreChosen}
 
 -- one item more at the end, which is so
 with_last : (front part : List Item) (P : Item → Type 0) (x : Item) → IsInOrder (front ++ x ∷ []) → AreChosen front P part → P x → AreChosen (front ++ x ∷ []) P (part ++ x ∷ [])

@@ -1,7 +1,7 @@
 use Rattle.std.proofs.Common.{subst, sym, ℕ}
 use Rattle.cat_items.specs.Catalogues.{HasKeyAt}
-use Rattle.edit_lists.proofs.PutItems.{put_new}
-use Rattle.edit_lists.proofs.putting.put.Goals as goal
+use Rattle.edit_rules.proofs.PutItems.{put_new}
+use Rattle.edit_rules.proofs.putting.put.Goals as goal
 
 pub put_in-requires-clause-new : goal.put_in-requires-clause-new
 put_in-requires-clause-new c = subst (λ l. (k : ℕ) → HasKeyAt l k c.args.item → ⊥) (sym c.reserve.ensures.items) c.in-None.ensures.none

@@ -1,7 +1,7 @@
 //! The items of a catalogue that are chosen.
 
 ghost use Rattle.std.specs.Prelude.{◌↔◌, IfOk, IsTrue};
-ghost use Rattle.edit_lists.specs.Chosen.{AreChosen};
+ghost use Rattle.edit_rules.specs.Chosen.{AreChosen};
 
 use cat_items::{Catalogue, Item};
 use sql_tree::Items;

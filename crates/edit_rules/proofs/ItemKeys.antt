@@ -13,7 +13,7 @@ use Rattle.cat_items.specs.declared.item.Item.{Item}
 use Rattle.cat_items.specs.declared.item.Item.TheVariants as item
 use Rattle.cat_items.specs.Order.{name_cmp, need_cmp, auth_rank, auth_cmp, right_cmp, role_grant_cmp, action_number, kind_of, key_cmp, item_cmp}
 use Rattle.cat_items.proofs.OrderLemmas.{item_cmp-total}
-use Rattle.edit_lists.specs.Chosen.{IsGranted}
+use Rattle.edit_rules.specs.Chosen.{IsGranted}
 
 action_number-is : (a b : Action) → action_number a ≡ action_number b → a ≡ b
 action_number-is action.Select action.Select e = refl

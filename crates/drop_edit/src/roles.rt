@@ -3,16 +3,15 @@
 ghost use Rattle.std.specs.Prelude.{◌≡◌, ◌⊎◌, ◌↔◌, ◌∷◌, [], IfOk, IsTrue};
 ghost use Rattle.cat_items.specs.declared.need.Auth.TheVariants.{Named};
 ghost use Rattle.cat_items.specs.Good.{IsGood};
+ghost use Rattle.cat_items.specs.Rights.{admin};
 ghost use Rattle.edit_rules.specs.First.{IsTested, HasPassed};
-ghost use Rattle.edit_rules.specs.Sound.{IsSound};
-ghost use Rattle.role_edit.specs.DroppedRoles as spec;
+ghost use Rattle.edit_laws.specs.Sound.{IsSound};
+ghost use Rattle.drop_edit.specs.DroppedRoles as spec;
 
-use crate::lists::only_admin;
-use cat_items::{Auth, Catalogue, Edit, EditError, Item, RoleGrant, Who};
-use edit_lists::{Chooses, chosen};
-use edit_rules::{test_privileges, test_role};
+use cat_items::{Auth, Catalogue, Edit, EditError, Item, Need, RoleGrant, Who};
+use edit_rules::{Chooses, admin_need, chosen, test_privileges, test_role};
 use sql_tree::{Items, Name};
-use std::alloc::Global;
+use std::alloc::{AllocError, Global};
 
 /// What goes with a role.
 #[derive(Drop)]
@@ -38,7 +37,7 @@ impl<'a> OfRole<'a> {
 }
 
 impl<'a> Chooses for OfRole<'a> {
-    ghost use Rattle.role_edit.specs.DroppedRoles.{IsOfRole};
+    ghost use Rattle.drop_edit.specs.DroppedRoles.{IsOfRole};
 
     ghost fits = { λ t x. IsOfRole t.role.now x };
 
@@ -50,6 +49,15 @@ impl<'a> Chooses for OfRole<'a> {
             _ => false,
         }
     }
+}
+
+/// The admin option of one role alone.
+fn only_admin(alloc: Global, role: &Name) -> Result<Items<Need>, AllocError>
+    ensures { IfOk result (λ needs. needs ≡ admin role.now ∷ []) }
+{
+    let mut needs = Items::new(alloc);
+    needs.push(admin_need(role)?)?;
+    Ok(needs)
 }
 
 /// All tests, in their order.

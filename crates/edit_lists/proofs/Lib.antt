@@ -1,4 +1,0 @@
-pub mod ChosenItems
-pub mod ItemKeys
-pub mod PutItems
-pub mod SettledEdits
