@@ -1,6 +1,7 @@
 -- Histories: what a book was, and what it answered.
 use Rattle.std.specs.Prelude.{◌≡◌, ◌↔◌, ◌≤◌, ℕ, ◌+◌, List, [], ◌∷◌, Some, take, length, slice_get}
 use Rattle.std.specs.List.{Contains}
+use Rattle.sql_names.specs.NameBytes.{NameBytes}
 use Rattle.cat_items.specs.declared.item.Item.{Item}
 use Rattle.cat_items.specs.declared.limits.Limits.{Limits}
 use Rattle.cat_items.specs.Catalogues.{IsInOrder, IsUserOf}
@@ -10,7 +11,7 @@ use Rattle.cat_engine.specs.declared.journal.Entry.{Entry}
 use Rattle.cat_engine.specs.declared.reply.Reply.{Reply}
 
 -- the users alone, no connection, and an empty journal
-pub record IsOpening (users : List (List ℕ)) (limits : Limits) (state : State) : Type 0 where
+pub record IsOpening (users : List NameBytes) (limits : Limits) (state : State) : Type 0 where
   pub order : IsInOrder state.content.catalogue
   pub members : (x : Item) → Contains state.content.catalogue x ↔ IsUserOf users x
   pub sessions : state.content.sessions ≡ []
@@ -42,7 +43,7 @@ IsLegal limits history = HasRoomFor limits.journal 0 history
 
 -- the journal is a legal history, and the state is the one after it
 pub record IsReached (state : State) : Type 0 where
-  pub users : List (List ℕ)
+  pub users : List NameBytes
   pub start : State
   pub opening : IsOpening users state.limits start
   pub after : IsAfter start state.journal state

@@ -1,6 +1,7 @@
 -- Why a text is refused: the first test that refuses, in the order in which they are made.
 use Rattle.std.specs.Prelude.{◌≡◌, false, ℕ, List, [], ◌∷◌, Option, Some, None}
 use Rattle.std.specs.Option.{unwrap_or}
+use Rattle.sql_names.specs.NameBytes.{NameBytes}
 use Rattle.sql_tree.specs.declared.statement.Connect.{Connect as ConnectParts}
 use Rattle.sql_tree.specs.declared.statement.RoleChoice.{RoleChoice}
 use Rattle.sql_tree.specs.declared.statement.RoleChoice.TheVariants.{Literal, Identifier, NoRole}
@@ -27,21 +28,21 @@ abbrev pub for_current : List (ℕ × Session) → ℕ → (Who → Refusal → 
 for_current sessions number test refusal = (who : Who) × (who_of sessions number ≡ Some who) × test who refusal
 
 -- the name of the connection that CONNECT makes: its own, else that of the server
-abbrev pub connection_name : ConnectParts → List ℕ
+abbrev pub connection_name : ConnectParts → NameBytes
 connection_name connect = unwrap_or connect.connection connect.server
 
 -- the role that SET ROLE names; NONE names none
-abbrev pub role_chosen : RoleChoice → Option (List ℕ)
+abbrev pub role_chosen : RoleChoice → Option NameBytes
 role_chosen (Literal name) = Some name
 role_chosen (Identifier name) = Some name
 role_chosen NoRole = None
 
 -- no role, or a role that the user reaches
-abbrev pub MayBeRole : List Item → Who → Option (List ℕ) → Type 0
+abbrev pub MayBeRole : List Item → Who → Option NameBytes → Type 0
 MayBeRole c who None = Unit {0}
 MayBeRole c who (Some role) = Has c (IsRole role) × Reaches c (Named who.user) (Named role)
 
-abbrev pub invalid_role : List Item → Who → Option (List ℕ) → Refusal → Type 0
+abbrev pub invalid_role : List Item → Who → Option NameBytes → Refusal → Type 0
 invalid_role c who role refusal = (¬ (MayBeRole c who role)) × (refusal ≡ InvalidRole false)
 
 -- the tests of SET ROLE, in their order

@@ -6,6 +6,7 @@ use Rattle.std.specs.Ordering.{nat_cmp}
 use Rattle.std.specs.Str.{bytes_eq}
 use Rattle.std.specs.BTreeMap.{is_at, insert_entry}
 use Rattle.std.specs.Map.{lookup, set_value}
+use Rattle.sql_names.specs.NameBytes.{NameBytes}
 use Rattle.cat_items.specs.declared.edit.Who.{Who}
 use Rattle.cat_engine.specs.declared.session.Connection.{Connection}
 use Rattle.cat_engine.specs.declared.session.Session.{Session}
@@ -13,15 +14,15 @@ use Rattle.cat_engine.specs.declared.session.Setting.{Setting}
 use Rattle.cat_engine.specs.declared.session.Setting.TheVariants.{Schema, Role}
 
 -- the connection has this name
-abbrev pub is_named : List ℕ → Connection → Bool
+abbrev pub is_named : NameBytes → Connection → Bool
 is_named name connection = bytes_eq name connection.name
 
 -- the session has a connection of this name
-abbrev pub has_connection : Session → List ℕ → Bool
+abbrev pub has_connection : Session → NameBytes → Bool
 has_connection session name = list_any (is_named name) session.connections
 
 -- the place of its connection of this name
-abbrev pub place_of : Session → List ℕ → Option ℕ
+abbrev pub place_of : Session → NameBytes → Option ℕ
 place_of session name = position (is_named name) session.connections
 
 -- its current connection
@@ -52,16 +53,16 @@ abbrev pub connected : Session → Connection → Session
 connected session connection = record { connections = session.connections ++ connection ∷ []; current = Some connection.name }
 
 -- with the connection of this name as the current one
-abbrev pub switched : Session → List ℕ → Session
+abbrev pub switched : Session → NameBytes → Session
 switched session name = record session { current = Some name }
 
 -- a name, where it isn't this one
-abbrev pub unless : List ℕ → Option (List ℕ) → Option (List ℕ)
+abbrev pub unless : NameBytes → Option NameBytes → Option NameBytes
 unless name None = None
 unless name (Some other) = if bytes_eq name other then None else Some other
 
 -- without the connection of this name; if it was current, none is
-abbrev pub disconnected : Session → List ℕ → Session
+abbrev pub disconnected : Session → NameBytes → Session
 disconnected session name = elim (place_of session name) [
   | None ↦ session
   | Some at ↦ record { connections = remove session.connections at; current = unless name session.current }

@@ -2,6 +2,7 @@
 use Rattle.std.specs.Prelude.{◌≡◌, ◌≢◌, ◌<◌, ◌≤◌, ℕ, List, length, slice_index_or}
 use Rattle.std.specs.List.{AllPairs, HoldsAt, Contains}
 use Rattle.std.specs.declared.cmp.Ordering.TheVariants.{Less, Equal}
+use Rattle.sql_names.specs.NameBytes.{NameBytes}
 use Rattle.cat_items.specs.declared.item.Item.{Item}
 use Rattle.cat_items.specs.declared.item.Item.TheVariants.{User, Schema}
 use Rattle.cat_items.specs.Order.{item_cmp}
@@ -26,13 +27,13 @@ pub record IsCut (items : List Item) (at : ℕ) (x : Item) : Type 0 where
   pub after : (k : ℕ) (d : Item) → at ≤ k → k < length items → item_cmp (slice_index_or items k d) x ≢ Less
 
 -- the user of one of these names
-abbrev pub IsUserOf : List (List ℕ) → Item → Type 0
-IsUserOf names x = (name : List ℕ) × Contains names name × (x ≡ User name)
+abbrev pub IsUserOf : List NameBytes → Item → Type 0
+IsUserOf names x = (name : NameBytes) × Contains names name × (x ≡ User name)
 
 -- the schema of this name has this owner
-abbrev pub OwnsSchema : List Item → List ℕ → List ℕ → Type 0
+abbrev pub OwnsSchema : List Item → NameBytes → NameBytes → Type 0
 OwnsSchema items schema owner = Contains items (Schema (record { name = schema; owner = owner }))
 
 -- an item with the key of the schema of this name
-abbrev pub schema_key : List ℕ → Item
+abbrev pub schema_key : NameBytes → Item
 schema_key name = Schema (record { name = name; owner = name })

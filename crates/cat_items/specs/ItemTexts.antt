@@ -1,5 +1,6 @@
 -- How needs and items are told.
-use Rattle.std.specs.Prelude.{ℕ, List, [], ◌∷◌, ◌++◌, Option, Some, None, codes, flat_map}
+use Rattle.std.specs.Prelude.{[], ◌∷◌, ◌++◌, Option, Some, None, codes, flat_map}
+use Rattle.sql_names.specs.NameBytes.{NameBytes, PathNames}
 use Rattle.sql_spelling.specs.Texts.{T, name_text, object_text}
 use Rattle.sql_tree.specs.declared.rights.Action.{Action}
 use Rattle.sql_tree.specs.declared.rights.Action.TheVariants as actions
@@ -22,22 +23,22 @@ action_text actions.Execute = codes "EXECUTE"
 action_text actions.Admin = codes "ADMIN OPTION"
 
 -- the kind of what an action is on, where a column is named or none
-abbrev pub kind_text : Action → Option (List ℕ) → T
+abbrev pub kind_text : Action → Option NameBytes → T
 kind_text actions.Usage column = codes " ON DOMAIN "
 kind_text actions.Execute column = codes " ON ROUTINE "
 kind_text actions.Admin column = codes " ON ROLE "
 kind_text action None = codes " ON TABLE "
 kind_text action (Some column) = codes " ON COLUMN "
 
-abbrev pub dotted_text : List (List ℕ) → T
+abbrev pub dotted_text : PathNames → T
 dotted_text names = flat_map (λ name. codes "." ++ name_text name) names
 
 -- names with points between them
-abbrev pub path_text : List (List ℕ) → T
+abbrev pub path_text : PathNames → T
 path_text [] = []
 path_text (name ∷ names) = name_text name ++ dotted_text names
 
-abbrev pub column_text : Option (List ℕ) → T
+abbrev pub column_text : Option NameBytes → T
 column_text None = []
 column_text (Some name) = codes "." ++ name_text name
 

@@ -1,6 +1,7 @@
 -- What a query, a condition or a body mentions: columns, tables and routines, at any depth.
 use Rattle.std.specs.Prelude.{ℕ, zero, suc, ◌+◌, Bool, false, cond, List, [], ◌∷◌, ◌++◌, Option, Some, None, map, flat_map, nat_eq, slice_get}
 use Rattle.std.specs.List.{list_any}
+use Rattle.sql_names.specs.NameBytes.{NameBytes}
 use Rattle.sql_names.specs.declared.object.Object.{Object}
 use Rattle.sql_names.specs.declared.column.ObjectName.{ObjectName}
 use Rattle.sql_names.specs.declared.column.ObjectName.TheVariants.{Qualified}
@@ -12,8 +13,8 @@ use Rattle.sql_tree.specs.declared.expr.Join.TheOpen.{Added-F, Arm-F, Chain-F, C
 
 -- a column of a table of a FROM that isn't closed yet, a column of a table, a table no column of which is used, or a routine
 pub data Mention : Type 0 where
-  of_cell : ℕ → ℕ → List ℕ → Mention
-  of_column : Object → List ℕ → Mention
+  of_cell : ℕ → ℕ → NameBytes → Mention
+  of_column : Object → NameBytes → Mention
   of_table : Object → Mention
   of_routine : Object → Mention
 
@@ -49,7 +50,7 @@ optional_mentions (Some mentions) = mentions
 abbrev pub all_mentions : List Mentions → Mentions
 all_mentions parts = flat_map (λ part. part) parts
 
-abbrev pub column_at : Option ObjectName → List ℕ → Mentions
+abbrev pub column_at : Option ObjectName → NameBytes → Mentions
 column_at (Some (Qualified table)) name = of_column table name ∷ []
 column_at table name = []
 

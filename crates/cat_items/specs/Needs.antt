@@ -1,7 +1,8 @@
 -- What the queries, conditions and bodies of items need (access rules, SQL:2003 part 2).
-use Rattle.std.specs.Prelude.{◌≡◌, ◌≢◌, ◌↔◌, ℕ, List, [], ◌∷◌, ◌++◌, Option, Some, None, map, flat_map}
+use Rattle.std.specs.Prelude.{◌≡◌, ◌≢◌, ◌↔◌, List, [], ◌∷◌, ◌++◌, Option, Some, None, map, flat_map}
 use Rattle.std.specs.List.{Contains, AllPairs}
 use Rattle.std.specs.declared.cmp.Ordering.TheVariants.{Less}
+use Rattle.sql_names.specs.NameBytes.{NameBytes}
 use Rattle.sql_names.specs.declared.object.Object.{Object}
 use Rattle.sql_names.specs.declared.column.ObjectName.{ObjectName}
 use Rattle.sql_names.specs.declared.column.ObjectName.TheVariants.{Qualified}
@@ -26,7 +27,7 @@ use Rattle.cat_items.specs.Mentions.{Mention, Mentions, of_cell, of_column, of_t
 abbrev pub object_need : Action → Object → Need
 object_need action o = record { action = action; on = path_of o; column = None }
 
-abbrev pub column_need : Action → Object → List ℕ → Need
+abbrev pub column_need : Action → Object → NameBytes → Need
 column_need action o name = record { action = action; on = path_of o; column = Some name }
 
 -- what a mention needs where it reads by this action; a column of a FROM that isn't there needs nothing
@@ -43,7 +44,7 @@ abbrev pub needs_on : Action → ObjectName → List Need
 needs_on action (Qualified o) = object_need action o ∷ []
 needs_on action name = []
 
-abbrev pub needs_on_columns : Action → ObjectName → List (List ℕ) → List Need
+abbrev pub needs_on_columns : Action → ObjectName → List NameBytes → List Need
 needs_on_columns action (Qualified o) names = map (column_need action o) names
 needs_on_columns action name names = []
 

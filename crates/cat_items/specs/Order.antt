@@ -1,10 +1,11 @@
 -- The order of items: by kind, and then by key fields.
-use Rattle.std.specs.Prelude.{ℕ, List}
+use Rattle.std.specs.Prelude.{ℕ}
 use Rattle.std.specs.declared.cmp.Ordering.{Ordering}
 use Rattle.std.specs.declared.cmp.Ordering.TheVariants.{Equal}
 use Rattle.std.specs.Ordering.{nat_cmp, ordering_then}
 use Rattle.std.specs.Cmp.Lexicographic.{slice_cmp}
 use Rattle.std.specs.Option.{option_cmp}
+use Rattle.sql_names.specs.NameBytes.{NameBytes}
 use Rattle.sql_names.specs.declared.object.Object.{Object}
 use Rattle.sql_tree.specs.declared.rights.Action.{Action}
 use Rattle.sql_tree.specs.declared.rights.Action.TheVariants.{Select, Insert, Update, Delete, References, Usage, Execute, Admin}
@@ -17,7 +18,7 @@ use Rattle.cat_items.specs.declared.item.Item.{Item}
 use Rattle.cat_items.specs.declared.item.Item.TheVariants.{User, Role, Schema, Table, View, Column, Domain, DomainCheck, Key, Foreign, Check, Assertion, Routine, RoleAuth, RoleAdmin, Held, Grantable}
 
 -- by bytes, a proper prefix first
-abbrev pub name_cmp : List ℕ → List ℕ → Ordering
+abbrev pub name_cmp : NameBytes → NameBytes → Ordering
 name_cmp = slice_cmp nat_cmp
 
 abbrev pub object_cmp : Object → Object → Ordering

@@ -1,6 +1,7 @@
 -- Of what pieces a query, a condition or a body is made, and when it is resolved and well formed.
 use Rattle.std.specs.Prelude.{◌≡◌, ◌<◌, ◌≤◌, ◌+◌, ◌⊎◌, ℕ, List, [], ◌∷◌, ◌++◌, Option, Some, None, All, length, map, flat_map}
 use Rattle.std.specs.Str.{IsUtf8}
+use Rattle.sql_names.specs.NameBytes.{NameBytes}
 use Rattle.sql_names.specs.declared.column.ObjectName.{ObjectName}
 use Rattle.sql_names.specs.declared.column.ObjectName.TheVariants.{Qualified}
 use Rattle.sql_names.specs.declared.column.Reference.{Reference}
@@ -29,7 +30,7 @@ pub data Piece : Type 0 where
   of_reference : Reference → Piece
   of_group : Reference → Piece
   of_object : ObjectName → Piece
-  of_name : Option (List ℕ) → Piece
+  of_name : Option NameBytes → Piece
   of_star : Piece
   of_literal : List ℕ → Piece
   of_number : List ℕ → Piece

@@ -2,6 +2,7 @@
 use Rattle.std.specs.Prelude.{◌≡◌, ◌<◌, ◌≤◌, ℕ, List, Option, Some, None, cond, nat_eq, length, slice_index_or}
 use Rattle.std.specs.Ordering.{nat_cmp}
 use Rattle.std.specs.declared.cmp.Ordering.{Ordering}
+use Rattle.sql_names.specs.NameBytes.{NameBytes}
 use Rattle.cat_items.specs.declared.need.Need.{Need}
 use Rattle.cat_items.specs.declared.item.Item.{Item}
 use Rattle.cat_items.specs.declared.item.Item.TheVariants as item
@@ -36,7 +37,7 @@ number_of object.Assertion = 12
 number_of object.Routine = 13
 
 -- the schema that an object is in
-abbrev pub schema_in : Item → Option (List ℕ)
+abbrev pub schema_in : Item → Option NameBytes
 schema_in (item.Table t) = Some t.schema
 schema_in (item.View v) = Some v.view.schema
 schema_in (item.Column c) = Some c.table.schema
@@ -50,11 +51,11 @@ schema_in (item.Routine r) = Some r.routine.schema
 schema_in x = None
 
 -- an object of this kind in this schema
-abbrev pub IsObjectIn : ObjectKind → List ℕ → Item → Type 0
+abbrev pub IsObjectIn : ObjectKind → NameBytes → Item → Type 0
 IsObjectIn kind schema x = (kind_of x ≡ number_of kind) × (schema_in x ≡ Some schema)
 
 -- the user of this name
-abbrev pub IsUser : List ℕ → Item → Type 0
+abbrev pub IsUser : NameBytes → Item → Type 0
 IsUser name (item.User n) = n ≡ name
 IsUser name x = ⊥
 
@@ -77,12 +78,12 @@ IsRoleAuthorization (item.RoleAuth g) = Unit {0}
 IsRoleAuthorization x = ⊥
 
 -- a role authorization of this role
-abbrev pub IsGrantOf : List ℕ → Item → Type 0
+abbrev pub IsGrantOf : NameBytes → Item → Type 0
 IsGrantOf role (item.RoleAuth g) = g.role ≡ role
 IsGrantOf role x = ⊥
 
 -- an admin option of this role
-abbrev pub IsAdminOptionOf : List ℕ → Item → Type 0
+abbrev pub IsAdminOptionOf : NameBytes → Item → Type 0
 IsAdminOptionOf role (item.RoleAdmin g) = g.role ≡ role
 IsAdminOptionOf role x = ⊥
 
@@ -131,7 +132,7 @@ kind_in (AdminOptions role) = 15
 kind_in (Held need) = 16
 kind_in (Grantable need) = 17
 
-abbrev pub object_place : ℕ → List ℕ → ℕ → Option (List ℕ) → Ordering
+abbrev pub object_place : ℕ → NameBytes → ℕ → Option NameBytes → Ordering
 object_place number schema kind None = nat_cmp kind number
 object_place number schema kind (Some own) = cond (nat_eq kind number) (name_cmp own schema) (nat_cmp kind number)
 

@@ -1,6 +1,7 @@
 -- What is relevant to an item: all that its support can depend on.
-use Rattle.std.specs.Prelude.{◌≡◌, ◌⊎◌, ◌-◌, ℕ, List, [], ◌∷◌, Option, Some, None, slice_get}
+use Rattle.std.specs.Prelude.{◌≡◌, ◌⊎◌, ◌-◌, List, [], ◌∷◌, Option, Some, None, slice_get}
 use Rattle.std.specs.List.{Contains}
+use Rattle.sql_names.specs.NameBytes.{NameBytes, PathNames}
 use Rattle.sql_names.specs.declared.object.Object.{Object}
 use Rattle.sql_tree.specs.declared.rights.Action.{Action}
 use Rattle.sql_tree.specs.declared.rights.Action.TheVariants.{Select, Insert, Update, Delete}
@@ -22,15 +23,15 @@ use Rattle.cat_items.specs.SystemRights.{security_of}
 use Rattle.cat_items.specs.Shape.{IsColumnOf}
 
 -- the schema of this name, whose owner this is
-abbrev pub IsOwnedSchema : List ℕ → Auth → Item → Type 0
+abbrev pub IsOwnedSchema : NameBytes → Auth → Item → Type 0
 IsOwnedSchema name owner (item.Schema x) = (x.name ≡ name) × (owner ≡ Named x.owner)
 IsOwnedSchema name owner x = ⊥
 
-abbrev pub Owns : List Item → List ℕ → Auth → Type 0
+abbrev pub Owns : List Item → NameBytes → Auth → Type 0
 Owns u schema owner = Has u (IsOwnedSchema schema owner)
 
 -- the owner of the schema that a path begins with
-abbrev pub OwnsPath : List Item → List (List ℕ) → Auth → Type 0
+abbrev pub OwnsPath : List Item → PathNames → Auth → Type 0
 OwnsPath u [] owner = ⊥
 OwnsPath u (schema ∷ names) owner = Owns u schema owner
 
@@ -67,21 +68,21 @@ HasUsage table need (item.Column c) = (c.table ≡ table) × IsUsageOf c.domain 
 HasUsage table need x = ⊥
 
 -- the need of the same action on the base of a plain view, or on its column
-abbrev pub IsBaseNeed : Action → Option Object → Option (List ℕ) → Need → Type 0
+abbrev pub IsBaseNeed : Action → Option Object → Option NameBytes → Need → Type 0
 IsBaseNeed action None column need = ⊥
 IsBaseNeed action (Some base) column need = need ≡ record { action = action; on = path_of base; column = column }
 
-abbrev pub IsNeedOnColumn : Action → Option Object → Option (List ℕ) → Need → Type 0
+abbrev pub IsNeedOnColumn : Action → Option Object → Option NameBytes → Need → Type 0
 IsNeedOnColumn action base None need = ⊥
 IsNeedOnColumn action base (Some column) need = IsBaseNeed action base (Some column) need
 
 -- the view's column of this name, and the need on the column of the base at its place
-abbrev pub IsBaseColumnNeed : View → Action → List ℕ → Need → Item → Type 0
+abbrev pub IsBaseColumnNeed : View → Action → NameBytes → Need → Item → Type 0
 IsBaseColumnNeed v action name need (item.Column c) = (c.table ≡ v.view) × (c.name ≡ name) × IsNeedOnColumn action v.base (slice_get v.base_columns (c.place - 1)) need
 IsBaseColumnNeed v action name need x = ⊥
 
 -- the needs that the system's rights on a view go by
-abbrev pub IsViewNeed : List Item → View → Action → Option (List ℕ) → Need → Type 0
+abbrev pub IsViewNeed : List Item → View → Action → Option NameBytes → Need → Type 0
 IsViewNeed u v Select column need = Contains v.needs need
 IsViewNeed u v Insert None need = IsBaseNeed Insert v.base None need
 IsViewNeed u v Update None need = IsBaseNeed Update v.base None need
@@ -111,7 +112,7 @@ IsNeedOf u (item.Table t) need = Has u (HasUsage t need)
 IsNeedOf u (item.View v) need = Contains v.needs need
 IsNeedOf u (item.Column c) need = IsUsageOf c.domain need
 IsNeedOf u (item.DomainCheck d) need = Contains d.needs need
-IsNeedOf u (item.Foreign f) need = (name : List ℕ) × Contains f.target_columns name × (need ≡ reference f.target name)
+IsNeedOf u (item.Foreign f) need = (name : NameBytes) × Contains f.target_columns name × (need ≡ reference f.target name)
 IsNeedOf u (item.Check c) need = Contains c.needs need
 IsNeedOf u (item.Assertion a) need = Contains a.needs need
 IsNeedOf u (item.Routine r) need = Contains r.needs need
@@ -125,7 +126,7 @@ IsAuth (Named name) y = IsAuthorization name y
 IsAuth a y = ⊥
 
 -- one of these columns of the table
-abbrev pub IsColumnAmong : Object → List (List ℕ) → Item → Type 0
+abbrev pub IsColumnAmong : Object → List NameBytes → Item → Type 0
 IsColumnAmong table names (item.Column c) = (c.table ≡ table) × Contains names c.name
 IsColumnAmong table names y = ⊥
 
@@ -137,7 +138,7 @@ IsColumnOfNeed need y = ⊥
 abbrev pub IsPartOfNeed : Need → Item → Type 0
 IsPartOfNeed need y = IsObject need.action need.on y ⊎ IsColumnOfNeed need y
 
-abbrev pub IsFirstSchema : List (List ℕ) → Item → Type 0
+abbrev pub IsFirstSchema : PathNames → Item → Type 0
 IsFirstSchema [] y = ⊥
 IsFirstSchema (schema ∷ names) y = IsSchema schema y
 
@@ -187,16 +188,16 @@ IsAdminOf u a granted (item.RoleAdmin g) = (g.role ≡ granted.role) × Reaches 
 IsAdminOf u a granted y = ⊥
 
 -- x grants a role, and y is an admin option of that role whose grantee is reached
-abbrev pub IsAdminFor : List Item → Auth → Item → Item → Type 0
-IsAdminFor u a (item.RoleAuth g) y = IsAdminOf u a g y
-IsAdminFor u a (item.RoleAdmin g) y = IsAdminOf u a g y
-IsAdminFor u a x y = ⊥
+abbrev pub IsAdminForGrant : List Item → Auth → Item → Item → Type 0
+IsAdminForGrant u a (item.RoleAuth g) y = IsAdminOf u a g y
+IsAdminForGrant u a (item.RoleAdmin g) y = IsAdminOf u a g y
+IsAdminForGrant u a x y = ⊥
 
 -- y is what x adds an option to
-abbrev pub IsWithout : Item → Item → Type 0
-IsWithout (item.Grantable r) y = IsHeld r y
-IsWithout (item.RoleAdmin g) y = IsRoleAuth g y
-IsWithout x y = ⊥
+abbrev pub IsOptionOn : Item → Item → Type 0
+IsOptionOn (item.Grantable r) y = IsHeld r y
+IsOptionOn (item.RoleAdmin g) y = IsRoleAuth g y
+IsOptionOn x y = ⊥
 
 -- y is relevant to x, where u has all items that are spoken of
 pub data Relevant (u : List Item) (y x : Item) : Type 0 where
@@ -205,5 +206,5 @@ pub data Relevant (u : List Item) (y x : Item) : Type 0 where
   on_need : (need : Need) → IsNeedOf u x need → IsPartOfNeed need y → Relevant u y x
   right_of : (need : Need) (a : Auth) → IsNeedOf u x need → IsActor u x a → IsRightOf u a need y → Relevant u y x
   role_for : (a : Auth) → IsActor u x a → IsRoleFor u a y → Relevant u y x
-  admin_for : (a : Auth) → IsActor u x a → IsAdminFor u a x y → Relevant u y x
-  without : IsWithout x y → Relevant u y x
+  admin_for : (a : Auth) → IsActor u x a → IsAdminForGrant u a x y → Relevant u y x
+  without : IsOptionOn x y → Relevant u y x

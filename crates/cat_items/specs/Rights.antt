@@ -1,5 +1,6 @@
 -- Where an object stands, and where a need is met (privileges and access rules, SQL:2003 part 2, 4.34.2).
-use Rattle.std.specs.Prelude.{◌≡◌, ℕ, Bool, true, false, List, [], ◌∷◌, All, Option, Some, None}
+use Rattle.std.specs.Prelude.{◌≡◌, Bool, true, false, List, [], ◌∷◌, All, Option, Some, None}
+use Rattle.sql_names.specs.NameBytes.{NameBytes, PathNames}
 use Rattle.sql_names.specs.declared.object.Object.{Object}
 use Rattle.sql_tree.specs.declared.rights.Action.{Action}
 use Rattle.sql_tree.specs.declared.rights.Action.TheVariants.{Select, Insert, Update, Delete, References, Usage, Execute, Admin}
@@ -11,20 +12,20 @@ use Rattle.cat_items.specs.declared.item.Item.TheVariants.{User, Role, Schema, T
 use Rattle.cat_items.specs.Reach.{Has, Reaches}
 
 -- an object as a path
-abbrev pub path_of : Object → List (List ℕ)
+abbrev pub path_of : Object → PathNames
 path_of o = o.schema ∷ o.name ∷ []
 
 -- a user or a role of this name
-abbrev pub IsAuthorization : List ℕ → Item → Type 0
+abbrev pub IsAuthorization : NameBytes → Item → Type 0
 IsAuthorization name (User n) = n ≡ name
 IsAuthorization name (Role n) = n ≡ name
 IsAuthorization name x = ⊥
 
-abbrev pub IsRole : List ℕ → Item → Type 0
+abbrev pub IsRole : NameBytes → Item → Type 0
 IsRole name (Role n) = n ≡ name
 IsRole name x = ⊥
 
-abbrev pub IsSchema : List ℕ → Item → Type 0
+abbrev pub IsSchema : NameBytes → Item → Type 0
 IsSchema name (Schema x) = x.name ≡ name
 IsSchema name x = ⊥
 
@@ -33,26 +34,26 @@ IsBaseTable o (Table t) = t ≡ o
 IsBaseTable o x = ⊥
 
 -- a base table or a view
-abbrev pub IsTable : List (List ℕ) → Item → Type 0
+abbrev pub IsTable : PathNames → Item → Type 0
 IsTable path (Table t) = path ≡ path_of t
 IsTable path (View v) = path ≡ path_of v.view
 IsTable path x = ⊥
 
-abbrev pub IsDomain : List (List ℕ) → Item → Type 0
+abbrev pub IsDomain : PathNames → Item → Type 0
 IsDomain path (Domain d) = path ≡ path_of d.domain
 IsDomain path x = ⊥
 
-abbrev pub IsRoutine : List (List ℕ) → Item → Type 0
+abbrev pub IsRoutine : PathNames → Item → Type 0
 IsRoutine path (Routine r) = path ≡ path_of r.routine
 IsRoutine path x = ⊥
 
 -- a column of this name of the table or view
-abbrev pub IsColumn : List (List ℕ) → List ℕ → Item → Type 0
+abbrev pub IsColumn : PathNames → NameBytes → Item → Type 0
 IsColumn path name (Column c) = (path ≡ path_of c.table) × (c.name ≡ name)
 IsColumn path name x = ⊥
 
 -- the object of such an action
-abbrev pub IsObject : Action → List (List ℕ) → Item → Type 0
+abbrev pub IsObject : Action → PathNames → Item → Type 0
 IsObject Select path x = IsTable path x
 IsObject Insert path x = IsTable path x
 IsObject Update path x = IsTable path x
@@ -62,7 +63,7 @@ IsObject Usage path x = IsDomain path x
 IsObject Execute path x = IsRoutine path x
 IsObject Admin path x = ⊥
 
-abbrev pub HasColumn : List Item → List (List ℕ) → Option (List ℕ) → Type 0
+abbrev pub HasColumn : List Item → PathNames → Option NameBytes → Type 0
 HasColumn s path None = Unit {0}
 HasColumn s path (Some name) = Has s (IsColumn path name)
 
@@ -77,7 +78,7 @@ IsRightFor true s a need (Grantable r) = (r.need ≡ need) × Reaches s a r.gran
 IsRightFor grantable s a need x = ⊥
 
 -- an admin option of the role whose grantee the authorization reaches
-abbrev pub IsAdminFor : List Item → Auth → List (List ℕ) → Item → Type 0
+abbrev pub IsAdminFor : List Item → Auth → PathNames → Item → Type 0
 IsAdminFor s a path (RoleAdmin g) = (path ≡ g.role ∷ []) × Reaches s a (Named g.grantee)
 IsAdminFor s a path x = ⊥
 
@@ -90,7 +91,7 @@ abbrev pub Met : Bool → List Item → Auth → Need → Type 0
 Met grantable s a need = MetBy grantable s a need need.action
 
 -- the schema of this name, for whose owner each of these needs is met
-abbrev pub MeetsAll : Bool → List Item → List ℕ → List Need → Item → Type 0
+abbrev pub MeetsAll : Bool → List Item → NameBytes → List Need → Item → Type 0
 MeetsAll grantable s schema needs (Schema x) = (x.name ≡ schema) × All (Met grantable s (Named x.owner)) needs
 MeetsAll grantable s schema needs x = ⊥
 
@@ -99,9 +100,9 @@ abbrev pub usage : Object → Need
 usage d = record { action = Usage; on = path_of d; column = None }
 
 -- REFERENCES on a column
-abbrev pub reference : Object → List ℕ → Need
+abbrev pub reference : Object → NameBytes → Need
 reference t column = record { action = References; on = path_of t; column = Some column }
 
 -- ADMIN on a role
-abbrev pub admin : List ℕ → Need
+abbrev pub admin : NameBytes → Need
 admin role = record { action = Admin; on = role ∷ []; column = None }

@@ -1,7 +1,8 @@
 -- What holds of the items of each catalogue, whoever has which right.
-use Rattle.std.specs.Prelude.{◌≡◌, ◌≢◌, ◌↔◌, ◌<◌, ℕ, List, [], ◌∷◌, Option, Some, None, length, codes, map, true}
+use Rattle.std.specs.Prelude.{◌≡◌, ◌≢◌, ◌↔◌, ◌<◌, List, [], ◌∷◌, Option, Some, None, length, codes, map, true}
 use Rattle.std.specs.List.{Contains, AllPairs}
 use Rattle.std.specs.declared.cmp.Ordering.TheVariants.{Less}
+use Rattle.sql_names.specs.NameBytes.{NameBytes, PathNames}
 use Rattle.sql_names.specs.declared.object.Object.{Object}
 use Rattle.sql_names.specs.declared.sort.SqlType.{SqlType}
 use Rattle.sql_names.specs.declared.sort.Param.{Param}
@@ -34,7 +35,7 @@ pub data NameSet : Type 0 where
   routines : NameSet
 
 -- the name of an item, in its set
-abbrev pub name_of : Item → Option (NameSet × List (List ℕ))
+abbrev pub name_of : Item → Option (NameSet × PathNames)
 name_of (item.User n) = Some (authorizations, n ∷ [])
 name_of (item.Role n) = Some (authorizations, n ∷ [])
 name_of (item.Table t) = Some (tables, path_of t)
@@ -50,7 +51,7 @@ name_of (item.Routine r) = Some (routines, path_of r.routine)
 name_of x = None
 
 -- PUBLIC and _SYSTEM are no names of users and roles
-abbrev pub IsAuthorizationName : List ℕ → Type 0
+abbrev pub IsAuthorizationName : NameBytes → Type 0
 IsAuthorizationName name = (name ≢ codes "PUBLIC") × (name ≢ codes "_SYSTEM")
 
 -- a constraint of a table is in the schema of its table
@@ -63,9 +64,9 @@ HasAllowedName (item.Check c) = c.name.schema ≡ c.table.schema
 HasAllowedName x = Unit {0}
 
 -- the table's own columns that a condition uses, by bytes
-pub record AreOwnColumns (table : Object) (condition : Expr) (columns : List (List ℕ)) : Type 0 where
+pub record AreOwnColumns (table : Object) (condition : Expr) (columns : List NameBytes) : Type 0 where
   pub order : AllPairs (λ a b. name_cmp a b ≡ Less) columns
-  pub members : (name : List ℕ) → Contains columns name ↔ Contains (expr_pieces condition) (of_reference (Own table name))
+  pub members : (name : NameBytes) → Contains columns name ↔ Contains (expr_pieces condition) (of_reference (Own table name))
 
 -- the fields that follow from the item's own tree
 abbrev pub HasDerivedFields : Item → Type 0
@@ -107,17 +108,17 @@ IsColumnOf table (item.Column c) = c.table ≡ table
 IsColumnOf table x = ⊥
 
 pub record HasShape (s : List Item) : Type 0 where
-  pub names : (x y : Item) (name : NameSet × List (List ℕ)) → Contains s x → Contains s y → name_of x ≡ Some name → name_of y ≡ Some name → x ≡ y
+  pub names : (x y : Item) (name : NameSet × PathNames) → Contains s x → Contains s y → name_of x ≡ Some name → name_of y ≡ Some name → x ≡ y
   pub allowed : (x : Item) → Contains s x → HasAllowedName x
   pub derived : (x : Item) → Contains s x → HasDerivedFields x
   pub lists : (x : Item) → Contains s x → HasProperLists x
   -- the key that a foreign key is bound to is one of its target, with the target columns as a set
-  pub keys : (f : Foreign) (k : Key) → Contains s (item.Foreign f) → Contains s (item.Key k) → k.name ≡ f.key → (k.table ≡ f.target) × ((name : List ℕ) → Contains k.columns name ↔ Contains f.target_columns name)
+  pub keys : (f : Foreign) (k : Key) → Contains s (item.Foreign f) → Contains s (item.Key k) → k.name ≡ f.key → (k.table ≡ f.target) × ((name : NameBytes) → Contains k.columns name ↔ Contains f.target_columns name)
   -- a table has at most one primary key
   pub primary : (a b : Key) → Contains s (item.Key a) → Contains s (item.Key b) → a.table ≡ b.table → a.primary ≡ true → b.primary ≡ true → a ≡ b
   pub domains : (c : Column) (d : Domain) → Contains s (item.Column c) → Contains s (item.Domain d) → c.domain ≡ Some d.domain → c.sort ≡ d.sort
   pub view_columns : (v : View) → Contains s (item.View v) → Has s (IsColumnOf v.view)
   pub view_domains : (v : View) (c : Column) → Contains s (item.View v) → Contains s (item.Column c) → c.table ≡ v.view → c.domain ≡ None
   -- no role leads back to itself
-  pub no_cycle : (name role : List ℕ) (roles : List (List ℕ)) → Leads s name (role ∷ roles) name → ⊥
+  pub no_cycle : (name role : NameBytes) (roles : List NameBytes) → Leads s name (role ∷ roles) name → ⊥
   pub trees : (x : Item) → Contains s x → IsWellFormed x

@@ -1,5 +1,6 @@
 -- What an item rests on: where its support stands (dependencies and abandoned descriptors, SQL:2003 part 2, 12.7 and 11.21).
-use Rattle.std.specs.Prelude.{◌≡◌, ◌≢◌, ℕ, Bool, true, false, List, [], ◌∷◌, All, map, Option, Some, None}
+use Rattle.std.specs.Prelude.{◌≡◌, ◌≢◌, Bool, true, false, List, [], ◌∷◌, All, map, Option, Some, None}
+use Rattle.sql_names.specs.NameBytes.{NameBytes}
 use Rattle.sql_names.specs.declared.object.Object.{Object}
 use Rattle.sql_tree.specs.declared.rights.Action.TheVariants as action
 use Rattle.sql_tree.specs.declared.body.Security.{Security}
@@ -16,11 +17,11 @@ use Rattle.cat_items.specs.Rights.{path_of, IsAuthorization, IsRole, IsSchema, I
 use Rattle.cat_items.specs.SystemRights.{SystemGrants, security_of}
 
 -- it has each of these columns
-abbrev pub HasColumns : List Item → Object → List (List ℕ) → Type 0
+abbrev pub HasColumns : List Item → Object → List NameBytes → Type 0
 HasColumns s table columns = All (λ name. Has s (IsColumn (path_of table) name)) columns
 
 -- what a column of this schema rests on where it is based on a domain: the domain, and USAGE on it for the owner
-abbrev pub RestsOnDomain : List Item → List ℕ → Option Object → Type 0
+abbrev pub RestsOnDomain : List Item → NameBytes → Option Object → Type 0
 RestsOnDomain s schema None = Unit {0}
 RestsOnDomain s schema (Some domain) = Has s (IsDomain (path_of domain)) × Has s (MeetsAll false s schema (usage domain ∷ []))
 
@@ -49,7 +50,7 @@ RoutineRests s r Definer = Has s (MeetsAll false s r.routine.schema r.needs)
 RoutineRests s r Invoker = Has s (IsSchema r.routine.schema) × All (Stands s) r.needs
 
 -- who granted a role: the system, or one who stands and has the admin option of it
-abbrev pub MayGrantRole : List Item → List ℕ → Auth → Type 0
+abbrev pub MayGrantRole : List Item → NameBytes → Auth → Type 0
 MayGrantRole s role System = Unit {0}
 MayGrantRole s role Public = ⊥
 MayGrantRole s role (Named name) = Has s (IsAuthorization name) × Met false s (Named name) (admin role)

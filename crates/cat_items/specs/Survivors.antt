@@ -1,6 +1,7 @@
 -- What survives of a list, and what an edit makes of a catalogue.
-use Rattle.std.specs.Prelude.{◌≡◌, ◌↔◌, ◌⊎◌, ℕ, List, Option, None, Some}
+use Rattle.std.specs.Prelude.{◌≡◌, ◌↔◌, ◌⊎◌, List, Option, None, Some}
 use Rattle.std.specs.List.{Contains}
+use Rattle.sql_names.specs.NameBytes.{NameBytes}
 use Rattle.sql_names.specs.declared.object.Object.{Object}
 use Rattle.sql_tree.specs.declared.rights.Action.{Action}
 use Rattle.sql_tree.specs.declared.rights.Action.TheVariants.{Select, Insert, Update, Delete, Usage, Execute}
@@ -17,7 +18,7 @@ use Rattle.cat_items.specs.SystemRights.{IsTableRow}
 use Rattle.cat_items.specs.Supported.{Supported}
 
 -- the actions that the system could grant on a view, or where it is plain (it has a base)
-abbrev pub MayBeViewRow : Action → Option (List ℕ) → Option Object → Type 0
+abbrev pub MayBeViewRow : Action → Option NameBytes → Option Object → Type 0
 MayBeViewRow Select column base = Unit {0}
 MayBeViewRow Insert column (Some base) = Unit {0}
 MayBeViewRow Update column (Some base) = Unit {0}
@@ -25,7 +26,7 @@ MayBeViewRow Delete None (Some base) = Unit {0}
 MayBeViewRow action column base = ⊥
 
 -- the object, in this schema, on which the system could grant this
-abbrev pub MayBeSystemRow : List ℕ → Need → Item → Type 0
+abbrev pub MayBeSystemRow : NameBytes → Need → Item → Type 0
 MayBeSystemRow schema need (item.Table t) = (t.schema ≡ schema) × (need.on ≡ path_of t) × IsTableRow need.action need.column
 MayBeSystemRow schema need (item.View v) = (v.view.schema ≡ schema) × (need.on ≡ path_of v.view) × MayBeViewRow need.action need.column v.base
 MayBeSystemRow schema need (item.Domain d) = (d.domain.schema ≡ schema) × (need ≡ record { action = Usage; on = path_of d.domain; column = None })

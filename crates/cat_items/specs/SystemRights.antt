@@ -1,5 +1,6 @@
 -- Which privileges the system grants to the owner of a schema for its objects.
-use Rattle.std.specs.Prelude.{◌≡◌, ℕ, ◌-◌, Bool, true, false, List, All, Option, Some, None, slice_get}
+use Rattle.std.specs.Prelude.{◌≡◌, ◌-◌, Bool, true, false, List, All, Option, Some, None, slice_get}
+use Rattle.sql_names.specs.NameBytes.{NameBytes}
 use Rattle.sql_names.specs.declared.object.Object.{Object}
 use Rattle.sql_tree.specs.declared.rights.Action.{Action}
 use Rattle.sql_tree.specs.declared.rights.Action.TheVariants.{Select, Insert, Update, Delete, References, Usage, Execute}
@@ -23,7 +24,7 @@ security_of (Return security expr) = security
 security_of (Atomic security acts) = security
 
 -- the actions on a base table, and on one of its columns
-abbrev pub IsTableRow : Action → Option (List ℕ) → Type 0
+abbrev pub IsTableRow : Action → Option NameBytes → Type 0
 IsTableRow Select column = Unit {0}
 IsTableRow Insert column = Unit {0}
 IsTableRow Update column = Unit {0}
@@ -42,18 +43,18 @@ MetOnBase grantable s owner action None = ⊥
 MetOnBase grantable s owner action (Some base) = Met grantable s owner (record { action = action; on = path_of base; column = None })
 
 -- the same action on one column of the base is met
-abbrev pub MetOnBaseColumn : Bool → List Item → Auth → Action → Option Object → Option (List ℕ) → Type 0
+abbrev pub MetOnBaseColumn : Bool → List Item → Auth → Action → Option Object → Option NameBytes → Type 0
 MetOnBaseColumn grantable s owner action (Some base) (Some column) = Met grantable s owner (record { action = action; on = path_of base; column = Some column })
 MetOnBaseColumn grantable s owner action base column = ⊥
 
 -- a view's column of this name, whose column of the base, the one at its place, meets the action
-abbrev pub IsUpdatable : Bool → List Item → Auth → View → Action → List ℕ → Item → Type 0
+abbrev pub IsUpdatable : Bool → List Item → Auth → View → Action → NameBytes → Item → Type 0
 IsUpdatable grantable s owner v action name (item.Column c) = (c.table ≡ v.view) × (c.name ≡ name)
     × MetOnBaseColumn grantable s owner action v.base (slice_get v.base_columns (c.place - 1))
 IsUpdatable grantable s owner v action name x = ⊥
 
 -- the actions on a view, and on one of its columns
-abbrev pub IsViewRow : Bool → List Item → Auth → View → Action → Option (List ℕ) → Type 0
+abbrev pub IsViewRow : Bool → List Item → Auth → View → Action → Option NameBytes → Type 0
 IsViewRow grantable s owner v Select column = MetWithOption grantable s owner v.needs
 IsViewRow grantable s owner v Insert None = MetOnBase grantable s owner Insert v.base
 IsViewRow grantable s owner v Update None = MetOnBase grantable s owner Update v.base
@@ -68,7 +69,7 @@ IsRoutineRow grantable s owner r Definer = MetWithOption grantable s owner r.nee
 IsRoutineRow grantable s owner r Invoker = Unit {0}
 
 -- the object, in this schema, on which the system grants this to the owner
-abbrev pub IsSystemRow : Bool → List Item → List ℕ → Auth → Need → Item → Type 0
+abbrev pub IsSystemRow : Bool → List Item → NameBytes → Auth → Need → Item → Type 0
 IsSystemRow grantable s schema owner need (item.Table t) = (t.schema ≡ schema) × (need.on ≡ path_of t) × IsTableRow need.action need.column
 IsSystemRow grantable s schema owner need (item.View v) = (v.view.schema ≡ schema) × (need.on ≡ path_of v.view) × IsViewRow grantable s owner v need.action need.column
 IsSystemRow grantable s schema owner need (item.Domain d) = (d.domain.schema ≡ schema) × (need ≡ record { action = Usage; on = path_of d.domain; column = None })

@@ -1,5 +1,6 @@
 -- What a statement that is done warns of.
-use Rattle.std.specs.Prelude.{◌≡◌, ℕ, List, [], Option, Some, None}
+use Rattle.std.specs.Prelude.{◌≡◌, List, [], Option, Some, None}
+use Rattle.sql_names.specs.NameBytes.{NameBytes}
 use Rattle.sql_tree.specs.declared.statement.Statement.{Statement}
 use Rattle.sql_tree.specs.declared.statement.Statement.TheVariants.{GrantPrivileges, RevokePrivileges, RevokeRoles}
 use Rattle.cat_items.specs.declared.edit.Edit.{Edit}
@@ -18,7 +19,7 @@ WarnsWhere P kind (Some warning) = P × (warning ≡ kind)
 
 -- what the statement with this edit warns of: GRANT of less than is listed, REVOKE of nothing
 abbrev pub IsWarning : List Item → Who → Statement → Edit → Option Warning → Type 0
-IsWarning c who (GrantPrivileges g) edit warning = (grantor : List ℕ) × IsGrantor c who g.grantor grantor
+IsWarning c who (GrantPrivileges g) edit warning = (grantor : NameBytes) × IsGrantor c who g.grantor grantor
     × WarnsWhere (IsPartial c grantor g.privileges (privileges_named who g.privileges g.target)) NotGranted warning
 IsWarning c who (RevokePrivileges g) edit warning = WarnsWhere (edit.target ≡ []) NotRevoked warning
 IsWarning c who (RevokeRoles g) edit warning = WarnsWhere (edit.target ≡ []) NotRevoked warning

@@ -1,6 +1,7 @@
 -- CREATE SCHEMA: its refusals, and what it adds (schema definition, SQL:2003 part 2, 11.1).
-use Rattle.std.specs.Prelude.{◌≡◌, ◌≢◌, ◌⊎◌, ℕ, List, [], ◌∷◌, codes}
+use Rattle.std.specs.Prelude.{◌≡◌, ◌≢◌, ◌⊎◌, List, [], ◌∷◌, codes}
 use Rattle.std.specs.Option.{unwrap_or}
+use Rattle.sql_names.specs.NameBytes.{NameBytes}
 use Rattle.sql_tree.specs.declared.statement.SchemaNameClause.{SchemaNameClause}
 use Rattle.sql_tree.specs.declared.statement.SchemaNameClause.TheVariants.{Named, Authorization}
 use Rattle.cat_items.specs.declared.edit.Edit.{Edit}
@@ -16,32 +17,32 @@ use Rattle.edit_rules.specs.Names.{unknown_authorization}
 use Rattle.edit_rules.specs.Owners.{IsCurrentRole}
 
 -- the name of the schema
-abbrev pub schema_name : SchemaNameClause → List ℕ
+abbrev pub schema_name : SchemaNameClause → NameBytes
 schema_name (Named schema owner) = schema
 schema_name (Authorization owner) = owner
 
 -- its owner: whom AUTHORIZATION names, else the user
-abbrev pub schema_owner : SchemaNameClause → Who → List ℕ
+abbrev pub schema_owner : SchemaNameClause → Who → NameBytes
 schema_owner (Named schema owner) who = unwrap_or owner who.user
 schema_owner (Authorization owner) who = owner
 
 -- INFORMATION_SCHEMA and DEFINITION_SCHEMA stand by themselves
-abbrev pub IsReserved : List ℕ → Type 0
+abbrev pub IsReserved : NameBytes → Type 0
 IsReserved name = (name ≡ codes "INFORMATION_SCHEMA") ⊎ (name ≡ codes "DEFINITION_SCHEMA")
 
-abbrev pub reserved_schema : List ℕ → Refusal → Type 0
+abbrev pub reserved_schema : NameBytes → Refusal → Type 0
 reserved_schema name refusal = IsReserved name × (refusal ≡ NameReserved)
 
 -- a schema is made by a user for itself or for its current role
-abbrev pub not_owner_to_be : List Item → Who → List ℕ → List ℕ → Refusal → Type 0
+abbrev pub not_owner_to_be : List Item → Who → NameBytes → NameBytes → Refusal → Type 0
 not_owner_to_be c who schema owner refusal = (owner ≢ who.user) × (¬ (IsCurrentRole c who owner)) × (refusal ≡ NotOwner schema)
 
 -- a schema has this name
-abbrev pub schema_exists : List Item → List ℕ → Refusal → Type 0
+abbrev pub schema_exists : List Item → NameBytes → Refusal → Type 0
 schema_exists c name refusal = Has c (IsSchema name) × (refusal ≡ NameExists (name ∷ []))
 
 -- a schema of this name for this owner: its refusals in their order
-abbrev pub schema_refusals : List Item → Who → List ℕ → List ℕ → List (Refusal → Type 0)
+abbrev pub schema_refusals : List Item → Who → NameBytes → NameBytes → List (Refusal → Type 0)
 schema_refusals c who schema owner =
     reserved_schema schema
     ∷ unknown_authorization c owner

@@ -1,5 +1,6 @@
 -- DROP ROLE (drop role statement, SQL:2003 part 2, 12.6).
-use Rattle.std.specs.Prelude.{◌≡◌, ◌⊎◌, ℕ, List, [], ◌∷◌}
+use Rattle.std.specs.Prelude.{◌≡◌, ◌⊎◌, List, [], ◌∷◌}
+use Rattle.sql_names.specs.NameBytes.{NameBytes}
 use Rattle.cat_items.specs.declared.edit.Edit.{Edit}
 use Rattle.cat_items.specs.declared.edit.Refusal.{Refusal}
 use Rattle.cat_items.specs.declared.edit.Who.{Who}
@@ -12,11 +13,11 @@ use Rattle.edit_rules.specs.Names.{unknown_role}
 use Rattle.edit_rules.specs.Privileges.{lacks_privilege}
 
 -- the user needs an admin option of the role
-abbrev pub drop_role_refusals : List Item → Who → List ℕ → List (Refusal → Type 0)
+abbrev pub drop_role_refusals : List Item → Who → NameBytes → List (Refusal → Type 0)
 drop_role_refusals c who role = unknown_role c role ∷ lacks_privilege c who.user (admin role ∷ []) ∷ []
 
 -- the role, the grants of it and to it, and the privileges that were granted to it
-abbrev pub IsOfRole : List ℕ → Item → Type 0
+abbrev pub IsOfRole : NameBytes → Item → Type 0
 IsOfRole role (Role n) = n ≡ role
 IsOfRole role (RoleAuth g) = (g.role ≡ role) ⊎ (g.grantee ≡ role)
 IsOfRole role (RoleAdmin g) = (g.role ≡ role) ⊎ (g.grantee ≡ role)
@@ -25,5 +26,5 @@ IsOfRole role (Grantable r) = r.grantee ≡ Named role
 IsOfRole role x = ⊥
 
 -- these are taken
-abbrev pub IsRoleDrop : List Item → List ℕ → Edit → Type 0
+abbrev pub IsRoleDrop : List Item → NameBytes → Edit → Type 0
 IsRoleDrop c role edit = IsTaking c (IsOfRole role) edit

@@ -1,5 +1,6 @@
 -- DROP TABLE: its refusals, and what it takes (drop table statement, SQL:2003 part 2, 11.21).
-use Rattle.std.specs.Prelude.{◌≡◌, ℕ, List, [], ◌∷◌}
+use Rattle.std.specs.Prelude.{◌≡◌, List, [], ◌∷◌}
+use Rattle.sql_names.specs.NameBytes.{PathNames}
 use Rattle.sql_names.specs.declared.column.ObjectName.{ObjectName}
 use Rattle.sql_names.specs.declared.object.Object.{Object}
 use Rattle.sql_tree.specs.declared.rights.Action.{Action}
@@ -25,7 +26,7 @@ IsTableAction References = Unit {0}
 IsTableAction action = ⊥
 
 -- a privilege on the table of this path, or on one of its columns
-abbrev pub IsOnTable : List (List ℕ) → Need → Type 0
+abbrev pub IsOnTable : PathNames → Need → Type 0
 IsOnTable path need = IsTableAction need.action × (need.on ≡ path)
 
 -- a base table itself, its columns, its constraints, and the rights on it and on its columns

@@ -1,5 +1,6 @@
 -- What the names of a statement stand for, and refusals by names that don't stand.
-use Rattle.std.specs.Prelude.{◌≡◌, ℕ, List, [], ◌∷◌}
+use Rattle.std.specs.Prelude.{◌≡◌, List, [], ◌∷◌}
+use Rattle.sql_names.specs.NameBytes.{NameBytes}
 use Rattle.sql_names.specs.declared.column.ObjectName.{ObjectName}
 use Rattle.sql_names.specs.declared.column.ObjectName.TheVariants.{Unqualified, Qualified}
 use Rattle.sql_names.specs.declared.object.Object.{Object}
@@ -11,7 +12,7 @@ use Rattle.cat_items.specs.Reach.{Has}
 use Rattle.cat_items.specs.Rights.{path_of, IsAuthorization, IsRole, IsSchema, IsBaseTable, IsTable, IsColumn}
 
 -- an object, in the session's schema where no schema is named
-abbrev pub object_in : List ℕ → ObjectName → Object
+abbrev pub object_in : NameBytes → ObjectName → Object
 object_in schema (Unqualified name) = record { schema = schema; name = name }
 object_in schema (Qualified object) = object
 
@@ -25,15 +26,15 @@ IsConstraint name (item.Assertion a) = a.name ≡ name
 IsConstraint name x = ⊥
 
 -- no user and no role has this name
-abbrev pub unknown_authorization : List Item → List ℕ → Refusal → Type 0
+abbrev pub unknown_authorization : List Item → NameBytes → Refusal → Type 0
 unknown_authorization c name refusal = (¬ (Has c (IsAuthorization name))) × (refusal ≡ UnknownName (name ∷ []))
 
 -- no role has this name
-abbrev pub unknown_role : List Item → List ℕ → Refusal → Type 0
+abbrev pub unknown_role : List Item → NameBytes → Refusal → Type 0
 unknown_role c name refusal = (¬ (Has c (IsRole name))) × (refusal ≡ UnknownName (name ∷ []))
 
 -- no schema has this name
-abbrev pub unknown_schema : List Item → List ℕ → Refusal → Type 0
+abbrev pub unknown_schema : List Item → NameBytes → Refusal → Type 0
 unknown_schema c name refusal = (¬ (Has c (IsSchema name))) × (refusal ≡ UnknownName (name ∷ []))
 
 -- no base table has this name
@@ -41,7 +42,7 @@ abbrev pub unknown_base_table : List Item → Object → Refusal → Type 0
 unknown_base_table c table refusal = (¬ (Has c (IsBaseTable table))) × (refusal ≡ UnknownName (path_of table))
 
 -- the table or view has no column of this name
-abbrev pub unknown_column : List Item → Object → List ℕ → Refusal → Type 0
+abbrev pub unknown_column : List Item → Object → NameBytes → Refusal → Type 0
 unknown_column c table name refusal = (¬ (Has c (IsColumn (path_of table) name))) × (refusal ≡ UnknownName (table.schema ∷ table.name ∷ name ∷ []))
 
 -- a constraint or an assertion has this name

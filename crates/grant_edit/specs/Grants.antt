@@ -1,6 +1,7 @@
 -- GRANT of privileges: what can be granted, and what is (grant privilege statement, SQL:2003 part 2, 12.2).
-use Rattle.std.specs.Prelude.{◌≡◌, ◌⊎◌, ◌↔◌, ℕ, Bool, true, false, List, [], IsTrue}
+use Rattle.std.specs.Prelude.{◌≡◌, ◌⊎◌, ◌↔◌, Bool, true, false, List, [], IsTrue}
 use Rattle.std.specs.List.{Contains}
+use Rattle.sql_names.specs.NameBytes.{NameBytes}
 use Rattle.sql_names.specs.declared.object.Object.{Object}
 use Rattle.sql_tree.specs.declared.rights.Action.{Action}
 use Rattle.sql_tree.specs.declared.rights.Action.TheVariants as actions
@@ -20,7 +21,7 @@ use Rattle.edit_rules.specs.Privileges.{IsLeastNeed}
 use Rattle.grant_edit.specs.declared.grants.Granted.{Granted}
 
 -- a privilege of which a grant option stands whose grantee the grantor reaches
-abbrev pub CanGrant : List Item → List ℕ → Need → Type 0
+abbrev pub CanGrant : List Item → NameBytes → Need → Type 0
 CanGrant c grantor need = Met true c (Named grantor) need
 
 -- actions that are granted on columns too
@@ -32,45 +33,45 @@ IsOnColumns actions.References = Unit {0}
 IsOnColumns action = ⊥
 
 -- a privilege on a column, where the same on the whole table or view is named and can be granted
-abbrev pub GoesAlong : List Item → List ℕ → Object → List Need → Need → Type 0
-GoesAlong c grantor object named need = (name : List ℕ) × (need ≡ column_need need.action object name) × IsOnColumns need.action
+abbrev pub GoesAlong : List Item → NameBytes → Object → List Need → Need → Type 0
+GoesAlong c grantor object named need = (name : NameBytes) × (need ≡ column_need need.action object name) × IsOnColumns need.action
     × Contains named (object_need need.action object) × CanGrant c grantor (object_need need.action object)
 
 -- what is granted: of what is named and what goes along, that which can be
-abbrev pub IsGranted : List Item → List ℕ → Object → List Need → Need → Type 0
+abbrev pub IsGranted : List Item → NameBytes → Object → List Need → Need → Type 0
 IsGranted c grantor object named need = (Contains named need ⊎ GoesAlong c grantor object named need) × CanGrant c grantor need
 
 -- a privilege of the grantor to one of these
-abbrev pub IsGrantTo : (Need → Type 0) → List ℕ → List Auth → Right → Type 0
+abbrev pub IsGrantTo : (Need → Type 0) → NameBytes → List Auth → Right → Type 0
 IsGrantTo granted grantor grantees r = granted r.need × (r.grantor ≡ Named grantor) × Contains grantees r.grantee
 
 -- it is held by each of them, and with WITH GRANT OPTION with grant option
-abbrev pub IsGrant : (Need → Type 0) → List ℕ → List Auth → Bool → Item → Type 0
+abbrev pub IsGrant : (Need → Type 0) → NameBytes → List Auth → Bool → Item → Type 0
 IsGrant granted grantor grantees option (item.Held r) = IsGrantTo granted grantor grantees r
 IsGrant granted grantor grantees option (item.Grantable r) = IsTrue option × IsGrantTo granted grantor grantees r
 IsGrant granted grantor grantees option x = ⊥
 
 -- nothing that is named can be granted; the least of it is told
-abbrev pub grants_nothing : List Item → List ℕ → List Need → Refusal → Type 0
+abbrev pub grants_nothing : List Item → NameBytes → List Need → Refusal → Type 0
 grants_nothing c grantor named refusal = ((need : Need) → Contains named need → ¬ (CanGrant c grantor need))
     × ((need : Need) × IsLeastNeed (Contains named) need × (refusal ≡ NoPrivilege need))
 
 -- one of these that can be granted, and one that can't
-abbrev pub GrantsSome : List Item → List ℕ → List Need → Type 0
+abbrev pub GrantsSome : List Item → NameBytes → List Need → Type 0
 GrantsSome c grantor named = ((need : Need) × Contains named need × CanGrant c grantor need) × ((need : Need) × Contains named need × (¬ (CanGrant c grantor need)))
 
 -- not all that the statement names is granted; ALL PRIVILEGES asks for no more than can be
-abbrev pub IsPartial : List Item → List ℕ → Privileges → List Need → Type 0
+abbrev pub IsPartial : List Item → NameBytes → Privileges → List Need → Type 0
 IsPartial c grantor All named = ⊥
 IsPartial c grantor (Listed all) named = GrantsSome c grantor named
 
 -- whether all of these can be granted
-abbrev pub AllGranted : List Item → List ℕ → List Need → Bool → Type 0
+abbrev pub AllGranted : List Item → NameBytes → List Need → Bool → Type 0
 AllGranted c grantor named true = (need : Need) → Contains named need → CanGrant c grantor need
 AllGranted c grantor named false = (need : Need) × Contains named need × (¬ (CanGrant c grantor need))
 
 -- a privilege on one of the columns of the object, by its item
-abbrev pub IsColumnGrant : List Item → List ℕ → Object → Action → Item → Need → Type 0
+abbrev pub IsColumnGrant : List Item → NameBytes → Object → Action → Item → Need → Type 0
 IsColumnGrant c grantor object action (item.Column x) need = (need ≡ column_need action object x.name) × CanGrant c grantor need
 IsColumnGrant c grantor object action x need = ⊥
 
@@ -81,11 +82,11 @@ IsOfRight right option (item.Grantable r) = IsTrue option × (r ≡ right)
 IsOfRight right option x = ⊥
 
 -- a privilege on one of the columns of the object that can be granted
-abbrev pub IsColumnPrivilege : List Item → List ℕ → Object → Action → Need → Type 0
-IsColumnPrivilege c grantor object action need = (name : List ℕ) × (need ≡ column_need action object name) × CanGrant c grantor need
+abbrev pub IsColumnPrivilege : List Item → NameBytes → Object → Action → Need → Type 0
+IsColumnPrivilege c grantor object action need = (name : NameBytes) × (need ≡ column_need action object name) × CanGrant c grantor need
 
 -- what a grantor grants of what is named: something can be granted, or nothing is named
-pub record IsGrantedBy (c : List Item) (grantor : List ℕ) (object : Object) (named : List Need) (granted : Granted) : Type 0 where
+pub record IsGrantedBy (c : List Item) (grantor : NameBytes) (object : Object) (named : List Need) (granted : Granted) : Type 0 where
   pub members : (need : Need) → Contains granted.needs.items need ↔ IsGranted c grantor object named need
   pub all : AllGranted c grantor named granted.all
   pub some : ((need : Need) × Contains named need × CanGrant c grantor need) ⊎ ((need : Need) → ¬ (Contains named need))

@@ -1,6 +1,7 @@
 -- The privileges that a statement names, and to whom (privileges, SQL:2003 part 2, 12.3).
-use Rattle.std.specs.Prelude.{◌≡◌, ◌⊎◌, ℕ, Bool, false, not, List, [], ◌∷◌, Option, Some, None, map}
+use Rattle.std.specs.Prelude.{◌≡◌, ◌⊎◌, Bool, false, not, List, [], ◌∷◌, Option, Some, None, map}
 use Rattle.std.specs.List.{Contains, flat_map}
+use Rattle.sql_names.specs.NameBytes.{NameBytes}
 use Rattle.sql_names.specs.declared.object.Object.{Object}
 use Rattle.sql_tree.specs.declared.rights.Action.{Action}
 use Rattle.sql_tree.specs.declared.rights.Action.TheVariants as actions
@@ -26,7 +27,7 @@ actions_on kinds.Procedure = actions.Execute ∷ []
 actions_on kinds.Routine = actions.Execute ∷ []
 
 -- the privilege on the whole object, or with a column list on each of the columns
-abbrev pub privilege_on : Object → Action → List (List ℕ) → List Need
+abbrev pub privilege_on : Object → Action → List NameBytes → List Need
 privilege_on object action [] = object_need action object ∷ []
 privilege_on object action (name ∷ names) = map (column_need action object) (name ∷ names)
 

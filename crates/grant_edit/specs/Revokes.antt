@@ -1,6 +1,7 @@
 -- REVOKE of privileges: which rights it identifies (revoke statement, SQL:2003 part 2, 12.7).
-use Rattle.std.specs.Prelude.{◌≡◌, ◌⊎◌, ℕ, Bool, false, List, Option, Some, None}
+use Rattle.std.specs.Prelude.{◌≡◌, ◌⊎◌, Bool, false, List, Option, Some, None}
 use Rattle.std.specs.List.{Contains}
+use Rattle.sql_names.specs.NameBytes.{NameBytes}
 use Rattle.sql_names.specs.declared.object.Object.{Object}
 use Rattle.cat_items.specs.declared.item.Item.{Item}
 use Rattle.cat_items.specs.declared.item.Item.TheVariants as item
@@ -16,7 +17,7 @@ abbrev pub IsRevoked : Object → List Need → Need → Type 0
 IsRevoked object named need = Contains named need ⊎ ((need.on ≡ path_of object) × Contains named (object_need need.action object))
 
 -- the column is named, or the whole object
-abbrev pub CoversColumn : Option (List ℕ) → Option (List ℕ) → Type 0
+abbrev pub CoversColumn : Option NameBytes → Option NameBytes → Type 0
 CoversColumn None column = Unit {0}
 CoversColumn (Some name) column = column ≡ Some name
 
@@ -25,11 +26,11 @@ abbrev pub Covers : Need → Need → Type 0
 Covers named need = (named.action ≡ need.action) × (named.on ≡ need.on) × CoversColumn named.column need.column
 
 -- a right that the grantor granted to one of these
-abbrev pub IsRevokedRight : Object → List Need → List ℕ → List Auth → Right → Type 0
+abbrev pub IsRevokedRight : Object → List Need → NameBytes → List Auth → Right → Type 0
 IsRevokedRight object named grantor grantees r = IsRevoked object named r.need × (r.grantor ≡ Named grantor) × Contains grantees r.grantee
 
 -- it is taken held and with grant option, by GRANT OPTION FOR with grant option alone
-abbrev pub IsIdentified : Object → List Need → List ℕ → List Auth → Bool → Item → Type 0
+abbrev pub IsIdentified : Object → List Need → NameBytes → List Auth → Bool → Item → Type 0
 IsIdentified object named grantor grantees option_alone (item.Held r) = (option_alone ≡ false) × IsRevokedRight object named grantor grantees r
 IsIdentified object named grantor grantees option_alone (item.Grantable r) = IsRevokedRight object named grantor grantees r
 IsIdentified object named grantor grantees option_alone x = ⊥

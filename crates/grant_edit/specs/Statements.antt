@@ -1,5 +1,6 @@
 -- GRANT and REVOKE of privileges: their refusals, and the edits that they make.
-use Rattle.std.specs.Prelude.{◌↔◌, ℕ, List, [], ◌∷◌, ◌++◌, IsTrue}
+use Rattle.std.specs.Prelude.{◌↔◌, List, [], ◌∷◌, ◌++◌, IsTrue}
+use Rattle.sql_names.specs.NameBytes.{NameBytes}
 use Rattle.sql_names.specs.declared.object.Object.{Object}
 use Rattle.sql_tree.specs.declared.rights.Target.{Target}
 use Rattle.sql_tree.specs.declared.rights.Privileges.{Privileges}
@@ -31,7 +32,7 @@ privileges_named who privileges target = named_privileges target.kind (target_ob
 
 -- nothing can be granted by the statement's grantor
 abbrev pub no_grant : List Item → Who → GrantPrivileges → Refusal → Type 0
-no_grant c who parts refusal = (grantor : List ℕ) × IsGrantor c who parts.grantor grantor × grants_nothing c grantor (privileges_named who parts.privileges parts.target) refusal
+no_grant c who parts refusal = (grantor : NameBytes) × IsGrantor c who parts.grantor grantor × grants_nothing c grantor (privileges_named who parts.privileges parts.target) refusal
 
 -- GRANT: names in reading order, CURRENT_ROLE behind them, then what can be granted
 abbrev pub granting_refusals : List Item → Who → GrantPrivileges → List (Refusal → Type 0)
@@ -39,21 +40,21 @@ granting_refusals c who parts = unknown_names c (target_object who parts.target)
     ++ no_current_role c who parts.grantor ∷ no_grant c who parts ∷ []
 
 -- by this grantor each grantee is granted what is named on the object and can be granted
-abbrev pub GrantsEditBy : List Item → List ℕ → Object → GrantPrivileges → Edit → Type 0
+abbrev pub GrantsEditBy : List Item → NameBytes → Object → GrantPrivileges → Edit → Type 0
 GrantsEditBy c grantor object parts edit = IsAdding (IsGrant (IsGranted c grantor object (named_privileges parts.target.kind object parts.privileges)) grantor (named_grantees parts.grantees) parts.grant_option) edit
 
 -- the same, and the warning is due where that isn't all
-pub record GrantsBy (c : List Item) (grantor : List ℕ) (object : Object) (parts : GrantPrivileges) (granting : Granting) : Type 0 where
+pub record GrantsBy (c : List Item) (grantor : NameBytes) (object : Object) (parts : GrantPrivileges) (granting : Granting) : Type 0 where
   pub edit : GrantsEditBy c grantor object parts granting.edit
   pub partial : IsTrue granting.partial ↔ IsPartial c grantor parts.privileges (named_privileges parts.target.kind object parts.privileges)
 
 -- the same by the statement's grantor
 abbrev pub Grants : List Item → Who → GrantPrivileges → Granting → Type 0
-Grants c who parts granting = (grantor : List ℕ) × IsGrantor c who parts.grantor grantor × GrantsBy c grantor (target_object who parts.target) parts granting
+Grants c who parts granting = (grantor : NameBytes) × IsGrantor c who parts.grantor grantor × GrantsBy c grantor (target_object who parts.target) parts granting
 
 -- the edit alone by the statement's grantor
 abbrev pub GrantsEdit : List Item → Who → GrantPrivileges → Edit → Type 0
-GrantsEdit c who parts edit = (grantor : List ℕ) × IsGrantor c who parts.grantor grantor × GrantsEditBy c grantor (target_object who parts.target) parts edit
+GrantsEdit c who parts edit = (grantor : NameBytes) × IsGrantor c who parts.grantor grantor × GrantsEditBy c grantor (target_object who parts.target) parts edit
 
 -- REVOKE: names in reading order, CURRENT_ROLE behind them, and nothing else
 abbrev pub revoking_refusals : List Item → Who → RevokePrivileges → List (Refusal → Type 0)
@@ -61,12 +62,12 @@ revoking_refusals c who parts = unknown_names c (target_object who parts.target)
     ++ no_current_role c who parts.grantor ∷ []
 
 -- what this grantor granted to the grantees of what is named on the object is destroyed
-abbrev pub RevokesBy : List Item → List ℕ → Object → RevokePrivileges → Edit → Type 0
+abbrev pub RevokesBy : List Item → NameBytes → Object → RevokePrivileges → Edit → Type 0
 RevokesBy c grantor object parts edit = IsTaking c (IsIdentified object (named_privileges parts.target.kind object parts.privileges) grantor (named_grantees parts.grantees) parts.option_alone) edit
 
 -- the same by the statement's grantor
 abbrev pub Revokes : List Item → Who → RevokePrivileges → Edit → Type 0
-Revokes c who parts edit = (grantor : List ℕ) × IsGrantor c who parts.grantor grantor × RevokesBy c grantor (target_object who parts.target) parts edit
+Revokes c who parts edit = (grantor : NameBytes) × IsGrantor c who parts.grantor grantor × RevokesBy c grantor (target_object who parts.target) parts edit
 
 abbrev pub IsGrantStatement : Statement → Type 0
 IsGrantStatement (statement.GrantPrivileges parts) = Unit {0}

@@ -1,5 +1,6 @@
 -- CREATE ROLE (role definition, SQL:2003 part 2, 12.4).
-use Rattle.std.specs.Prelude.{◌≡◌, ◌⊎◌, ℕ, List, [], ◌∷◌, codes}
+use Rattle.std.specs.Prelude.{◌≡◌, ◌⊎◌, List, [], ◌∷◌, codes}
+use Rattle.sql_names.specs.NameBytes.{NameBytes}
 use Rattle.sql_tree.specs.declared.statement.CreateRole.{CreateRole}
 use Rattle.cat_items.specs.declared.edit.Edit.{Edit}
 use Rattle.cat_items.specs.declared.edit.Refusal.{Refusal}
@@ -14,28 +15,28 @@ use Rattle.cat_items.specs.Rights.{IsAuthorization}
 use Rattle.edit_rules.specs.Grantors.{IsGrantor, no_current_role}
 
 -- no role is called so
-abbrev pub IsReservedRole : List ℕ → Type 0
+abbrev pub IsReservedRole : NameBytes → Type 0
 IsReservedRole name = (name ≡ codes "PUBLIC") ⊎ ((name ≡ codes "NONE") ⊎ (name ≡ codes "_SYSTEM"))
 
-abbrev pub reserved_role : List ℕ → Refusal → Type 0
+abbrev pub reserved_role : NameBytes → Refusal → Type 0
 reserved_role name refusal = IsReservedRole name × (refusal ≡ NameReserved)
 
 -- a user or a role has this name, the session's user among them: they have one set of names
-abbrev pub IsTaken : List Item → Who → List ℕ → Type 0
+abbrev pub IsTaken : List Item → Who → NameBytes → Type 0
 IsTaken c who name = Has c (IsAuthorization name) ⊎ (name ≡ who.user)
 
-abbrev pub authorization_exists : List Item → Who → List ℕ → Refusal → Type 0
+abbrev pub authorization_exists : List Item → Who → NameBytes → Refusal → Type 0
 authorization_exists c who name refusal = IsTaken c who name × (refusal ≡ NameExists (name ∷ []))
 
 abbrev pub create_role_refusals : List Item → Who → CreateRole → List (Refusal → Type 0)
 create_role_refusals c who parts = reserved_role parts.role ∷ no_current_role c who parts.admin ∷ authorization_exists c who parts.role ∷ []
 
 -- the system grants the role
-abbrev pub grant_by_system : List ℕ → List ℕ → RoleGrant
+abbrev pub grant_by_system : NameBytes → NameBytes → RoleGrant
 grant_by_system role admin = record { role = role; grantor = System; grantee = admin }
 
 -- the role is added, and the system grants it with the admin option
-abbrev pub creating_role : List ℕ → List ℕ → Edit
+abbrev pub creating_role : NameBytes → NameBytes → Edit
 creating_role role admin = record {
   target = [];
   changed = [];
@@ -44,4 +45,4 @@ creating_role role admin = record {
 
 -- it is granted to the current user, or to whom WITH ADMIN names
 abbrev pub IsRoleCreation : List Item → Who → CreateRole → Edit → Type 0
-IsRoleCreation c who parts edit = (admin : List ℕ) × IsGrantor c who parts.admin admin × (edit ≡ creating_role parts.role admin)
+IsRoleCreation c who parts edit = (admin : NameBytes) × IsGrantor c who parts.admin admin × (edit ≡ creating_role parts.role admin)

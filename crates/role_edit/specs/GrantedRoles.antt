@@ -1,6 +1,7 @@
 -- GRANT of roles (grant role statement, SQL:2003 part 2, 12.5).
-use Rattle.std.specs.Prelude.{◌≡◌, ℕ, Bool, true, List, [], ◌∷◌, ◌++◌, map, Option}
+use Rattle.std.specs.Prelude.{◌≡◌, Bool, true, List, [], ◌∷◌, ◌++◌, map, Option}
 use Rattle.std.specs.List.{Contains}
+use Rattle.sql_names.specs.NameBytes.{NameBytes}
 use Rattle.sql_tree.specs.declared.rights.Grantor.{Grantor}
 use Rattle.sql_tree.specs.declared.statement.GrantRoles.{GrantRoles}
 use Rattle.cat_items.specs.declared.edit.Edit.{Edit}
@@ -19,16 +20,16 @@ use Rattle.edit_rules.specs.Names.{unknown_authorization, unknown_role}
 use Rattle.edit_rules.specs.Privileges.{lacks_privilege}
 
 -- names that don't stand, in the order in which they are written
-abbrev pub name_refusals : List Item → Who → List (List ℕ) → List (List ℕ) → Option Grantor → List (Refusal → Type 0)
+abbrev pub name_refusals : List Item → Who → List NameBytes → List NameBytes → Option Grantor → List (Refusal → Type 0)
 name_refusals c who roles grantees by = map (unknown_role c) roles ++ (map (unknown_authorization c) grantees ++ no_current_role c who by ∷ [])
 
 -- the role grants of the catalogue and of the statement have a cycle together
-abbrev pub role_cycle : List Item → List (List ℕ) → List (List ℕ) → Refusal → Type 0
+abbrev pub role_cycle : List Item → List NameBytes → List NameBytes → Refusal → Type 0
 role_cycle c roles grantees refusal = HasCycle (IsStep c roles grantees) × (refusal ≡ RoleCycle)
 
 -- the grantor has no admin option of one of the roles
-abbrev pub lacks_admin_option : List Item → Who → Option Grantor → List (List ℕ) → Refusal → Type 0
-lacks_admin_option c who by roles refusal = (grantor : List ℕ) × IsGrantor c who by grantor × lacks_privilege c grantor (map admin roles) refusal
+abbrev pub lacks_admin_option : List Item → Who → Option Grantor → List NameBytes → Refusal → Type 0
+lacks_admin_option c who by roles refusal = (grantor : NameBytes) × IsGrantor c who by grantor × lacks_privilege c grantor (map admin roles) refusal
 
 abbrev pub grant_roles_refusals : List Item → Who → GrantRoles → List (Refusal → Type 0)
 grant_roles_refusals c who parts =
@@ -38,18 +39,18 @@ grant_roles_refusals c who parts =
     ∷ []
 
 -- by this grantor, of one of these roles to one of these grantees
-pub record IsGrantBy (grantor : List ℕ) (roles grantees : List (List ℕ)) (g : RoleGrant) : Type 0 where
+pub record IsGrantBy (grantor : NameBytes) (roles grantees : List NameBytes) (g : RoleGrant) : Type 0 where
   pub by : g.grantor ≡ Named grantor
   pub role : Contains roles g.role
   pub grantee : Contains grantees g.grantee
 
 -- a role authorization, and with the option the admin option of the same fields
-abbrev pub IsGrantedRole : List ℕ → List (List ℕ) → List (List ℕ) → Bool → Item → Type 0
+abbrev pub IsGrantedRole : NameBytes → List NameBytes → List NameBytes → Bool → Item → Type 0
 IsGrantedRole grantor roles grantees option (RoleAuth g) = IsGrantBy grantor roles grantees g
 IsGrantedRole grantor roles grantees option (RoleAdmin g) = (option ≡ true) × IsGrantBy grantor roles grantees g
 IsGrantedRole grantor roles grantees option x = ⊥
 
 -- each of the roles is granted to each of the grantees
 abbrev pub IsRoleGrantEdit : List Item → Who → GrantRoles → Edit → Type 0
-IsRoleGrantEdit c who parts edit = (grantor : List ℕ) × IsGrantor c who parts.grantor grantor
+IsRoleGrantEdit c who parts edit = (grantor : NameBytes) × IsGrantor c who parts.grantor grantor
     × IsAdding (IsGrantedRole grantor parts.roles parts.grantees parts.admin_option) edit

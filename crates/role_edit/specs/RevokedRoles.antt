@@ -1,5 +1,6 @@
 -- REVOKE of roles (revoke statement, SQL:2003 part 2, 12.7).
-use Rattle.std.specs.Prelude.{◌≡◌, ℕ, Bool, false, List}
+use Rattle.std.specs.Prelude.{◌≡◌, Bool, false, List}
+use Rattle.sql_names.specs.NameBytes.{NameBytes}
 use Rattle.sql_tree.specs.declared.statement.RevokeRoles.{RevokeRoles}
 use Rattle.cat_items.specs.declared.edit.Edit.{Edit}
 use Rattle.cat_items.specs.declared.edit.Refusal.{Refusal}
@@ -14,11 +15,11 @@ abbrev pub revoke_roles_refusals : List Item → Who → RevokeRoles → List (R
 revoke_roles_refusals c who parts = name_refusals c who parts.roles parts.grantees parts.grantor
 
 -- what the statement identifies: the role authorizations with their admin options, or these alone
-abbrev pub IsIdentified : List ℕ → RevokeRoles → Item → Type 0
+abbrev pub IsIdentified : NameBytes → RevokeRoles → Item → Type 0
 IsIdentified grantor parts (RoleAuth g) = (parts.option_alone ≡ false) × IsGrantBy grantor parts.roles parts.grantees g
 IsIdentified grantor parts (RoleAdmin g) = IsGrantBy grantor parts.roles parts.grantees g
 IsIdentified grantor parts x = ⊥
 
 -- what is identified is taken
 abbrev pub IsRoleRevokeEdit : List Item → Who → RevokeRoles → Edit → Type 0
-IsRoleRevokeEdit c who parts edit = (grantor : List ℕ) × IsGrantor c who parts.grantor grantor × IsTaking c (IsIdentified grantor parts) edit
+IsRoleRevokeEdit c who parts edit = (grantor : NameBytes) × IsGrantor c who parts.grantor grantor × IsTaking c (IsIdentified grantor parts) edit

@@ -228,7 +228,7 @@ module _ (all s t : List Item) (within : IsWithin s all) where
     -- ---- grants of roles
 
     module _ (g : RoleGrant) (names : (y : Item) → RoleGrantNames g y → Names x y) (acts : (a : Auth) → a ≡ g.grantor → IsActor all x a)
-        (admins : (a : Auth) (y : Item) → IsAdminOf all a g y → relevant.IsAdminFor all a x y) where
+        (admins : (a : Auth) (y : Item) → IsAdminOf all a g y → relevant.IsAdminForGrant all a x y) where
       admin_kept : (a : Auth) → IsActor all x a → (y : Item) → Contains s y → IsAdminFor s a (g.role ∷ []) y → IsAdminFor t a (g.role ∷ []) y × Relevant all y x
       admin_kept a is_actor (item.RoleAdmin other) inside is =
           let same_path = is.0 in

@@ -1,7 +1,8 @@
 -- The first key, by its name, that REFERENCES may mean.
-use Rattle.std.specs.Prelude.{◌≡◌, ◌≢◌, ◌⊎◌, ℕ, List, Option, None, Some}
+use Rattle.std.specs.Prelude.{◌≡◌, ◌≢◌, ◌⊎◌, List, Option, None, Some}
 use Rattle.std.specs.List.{Contains}
 use Rattle.std.specs.declared.cmp.Ordering.TheVariants.{Less}
+use Rattle.sql_names.specs.NameBytes.{NameBytes}
 use Rattle.sql_names.specs.declared.object.Object.{Object}
 use Rattle.cat_items.specs.declared.item.Item.{Item}
 use Rattle.cat_items.specs.declared.item.Item.TheVariants as item
@@ -10,19 +11,19 @@ use Rattle.cat_items.specs.Order.{object_cmp}
 use Rattle.table_keys.specs.Keys.{FitsColumns}
 
 -- a key of this table, in its schema, that may be meant by these columns
-abbrev pub Fits : Object → List (List ℕ) → Key → Type 0
+abbrev pub Fits : Object → List NameBytes → Key → Type 0
 Fits table columns k = (k.table ≡ table) × (k.name.schema ≡ table.schema) × FitsColumns columns k
 
 -- an item that is such a key
-abbrev pub IsFitting : Object → List (List ℕ) → Item → Type 0
+abbrev pub IsFitting : Object → List NameBytes → Item → Type 0
 IsFitting table columns (item.Key k) = Fits table columns k
 IsFitting table columns x = ⊥
 
 -- such a key of the catalogue, and one of those that are made
-abbrev pub MayBeOf : List Item → Object → List (List ℕ) → Key → Type 0
+abbrev pub MayBeOf : List Item → Object → List NameBytes → Key → Type 0
 MayBeOf c table columns k = Contains c (item.Key k) × Fits table columns k
 
-abbrev pub MayBeAmong : List Key → Object → List (List ℕ) → Key → Type 0
+abbrev pub MayBeAmong : List Key → Object → List NameBytes → Key → Type 0
 MayBeAmong own table columns k = Contains own k × Fits table columns k
 
 -- one of them that comes before the others

@@ -1,6 +1,7 @@
 -- The foreign keys of CREATE TABLE, each bound to a key (referential constraint definition, SQL:2003 part 2, 11.8).
-use Rattle.std.specs.Prelude.{◌≡◌, ◌↔◌, ℕ, List, length}
+use Rattle.std.specs.Prelude.{◌≡◌, ◌↔◌, List, length}
 use Rattle.std.specs.List.{Any, Contains}
+use Rattle.sql_names.specs.NameBytes.{NameBytes}
 use Rattle.sql_names.specs.declared.object.Object.{Object}
 use Rattle.sql_tree.specs.declared.table.References.{References}
 use Rattle.sql_tree.specs.declared.table.TableConstraintKind.{TableConstraintKind}
@@ -16,12 +17,12 @@ use Rattle.table_names.specs.declared.named.NamedConstraint.{NamedConstraint}
 use Rattle.table_keys.specs.Keys.{IsMeant, beside, columns_meant}
 
 -- a foreign key of some columns is bound to the key that is meant, where that one has as many
-pub record IsBound (c : List Item) (own : List Key) (who : Who) (columns : List (List ℕ)) (references : References) (k : Key) : Type 0 where
+pub record IsBound (c : List Item) (own : List Key) (who : Who) (columns : List NameBytes) (references : References) (k : Key) : Type 0 where
   pub meant : IsMeant c own (target_of who references) references.columns k
   pub count : length (columns_meant references.columns k) ≡ length columns
 
 -- the descriptor of a foreign key that is bound to this key
-abbrev pub foreign_key : Who → Object → List ℕ → List (List ℕ) → References → Key → Foreign
+abbrev pub foreign_key : Who → Object → NameBytes → List NameBytes → References → Key → Foreign
 foreign_key who made name columns references k = record {
   name = beside made name;
   table = made;
@@ -35,7 +36,7 @@ foreign_key who made name columns references k = record {
 }
 
 -- what a constraint of this name makes
-abbrev pub MakesForeign : List Item → List Key → Who → Object → List ℕ → TableConstraintKind → Foreign → Type 0
+abbrev pub MakesForeign : List Item → List Key → Who → Object → NameBytes → TableConstraintKind → Foreign → Type 0
 MakesForeign c own who made name (kinds.ForeignKey columns references) f = (k : Key) × IsBound c own who columns references k × (f ≡ foreign_key who made name columns references k)
 MakesForeign c own who made name kind f = ⊥
 

@@ -1,7 +1,8 @@
 -- Names that CREATE TABLE gives and names that it needs.
-use Rattle.std.specs.Prelude.{◌≡◌, ◌≢◌, ◌⊎◌, ℕ, List, [], ◌∷◌, ◌++◌, map}
+use Rattle.std.specs.Prelude.{◌≡◌, ◌≢◌, ◌⊎◌, List, [], ◌∷◌, ◌++◌, map}
 use Rattle.std.specs.List.{Any, flat_map}
 use Rattle.std.specs.Option.{option_to_list}
+use Rattle.sql_names.specs.NameBytes.{NameBytes}
 use Rattle.sql_names.specs.declared.object.Object.{Object}
 use Rattle.sql_tree.specs.declared.table.References.{References}
 use Rattle.sql_tree.specs.declared.table.TableConstraintKind.{TableConstraintKind}
@@ -19,25 +20,25 @@ use Rattle.table_parts.specs.declared.parts.Part.TheVariants as parts
 use Rattle.table_parts.specs.Parts.{IsColumnNamed}
 
 -- the names that are given to constraints
-abbrev pub given_name : Part → List (List ℕ)
+abbrev pub given_name : Part → List NameBytes
 given_name (parts.Column d) = []
 given_name (parts.Constraint k) = option_to_list k.name
 
-abbrev pub given_names : List Part → List (List ℕ)
+abbrev pub given_names : List Part → List NameBytes
 given_names all = flat_map given_name all
 
 -- the table that is made has the column among its own, another one has it in the catalogue
-abbrev pub IsKnownColumn : List Item → Object → List Part → Object → List ℕ → Type 0
+abbrev pub IsKnownColumn : List Item → Object → List Part → Object → NameBytes → Type 0
 IsKnownColumn c made parts table name = ((table ≡ made) × Any (IsColumnNamed name) parts) ⊎ ((table ≢ made) × Has c (IsColumn (path_of table) name))
 
-abbrev pub unknown_column : List Item → Object → List Part → Object → List ℕ → Refusal → Type 0
+abbrev pub unknown_column : List Item → Object → List Part → Object → NameBytes → Refusal → Type 0
 unknown_column c made parts table name refusal = (¬ (IsKnownColumn c made parts table name)) × (refusal ≡ UnknownName (table.schema ∷ table.name ∷ name ∷ []))
 
 -- a target that is neither the table that is made nor a base table
 abbrev pub unknown_target : List Item → Object → Object → Refusal → Type 0
 unknown_target c made table refusal = (table ≢ made) × unknown_base_table c table refusal
 
-abbrev pub unknown_columns : List Item → Object → List Part → Object → List (List ℕ) → List (Refusal → Type 0)
+abbrev pub unknown_columns : List Item → Object → List Part → Object → List NameBytes → List (Refusal → Type 0)
 unknown_columns c made parts table names = map (unknown_column c made parts table) names
 
 -- the table that REFERENCES names

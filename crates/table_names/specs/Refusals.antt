@@ -1,5 +1,6 @@
 -- Refusals of CREATE TABLE by names and owners, in their order.
-use Rattle.std.specs.Prelude.{◌≡◌, ℕ, List, [], ◌∷◌, ◌++◌, map}
+use Rattle.std.specs.Prelude.{◌≡◌, List, [], ◌∷◌, ◌++◌, map}
+use Rattle.sql_names.specs.NameBytes.{NameBytes, PathNames}
 use Rattle.sql_names.specs.declared.object.Object.{Object}
 use Rattle.cat_items.specs.declared.edit.Refusal.{Refusal}
 use Rattle.cat_items.specs.declared.edit.Refusal.TheVariants.{Repeated}
@@ -15,7 +16,7 @@ use Rattle.table_parts.specs.Marks.{IsRepeated, marks_in}
 use Rattle.table_names.specs.Given.{given_names, unknown_names}
 
 -- what is told of something that comes twice: its name, and of a second PRIMARY KEY the table
-abbrev pub told : Object → Mark → List (List ℕ)
+abbrev pub told : Object → Mark → PathNames
 told made (marks.Column name) = name ∷ []
 told made (marks.Constraint name) = name ∷ []
 told made marks.Primary = path_of made
@@ -26,7 +27,7 @@ abbrev pub repeated : Object → List Part → Refusal → Type 0
 repeated made parts refusal = (mark : Mark) × IsRepeated (marks_in parts) mark × (refusal ≡ Repeated (told made mark))
 
 -- a constraint or an assertion of the schema has the name
-abbrev pub exists_in : List Item → List ℕ → List ℕ → Refusal → Type 0
+abbrev pub exists_in : List Item → NameBytes → NameBytes → Refusal → Type 0
 exists_in c schema name = constraint_exists c (record { schema = schema; name = name })
 
 -- taken names: the table, and then its constraints

@@ -1,6 +1,7 @@
 -- What a column's definition and the constraints say of a column.
-use Rattle.std.specs.Prelude.{◌⊎◌, ℕ, List, [], ◌∷◌, Option, None, Some}
+use Rattle.std.specs.Prelude.{◌⊎◌, List, [], ◌∷◌, Option, None, Some}
 use Rattle.std.specs.List.{Any, Contains}
+use Rattle.sql_names.specs.NameBytes.{NameBytes}
 use Rattle.sql_names.specs.declared.sort.Default.{Default}
 use Rattle.sql_tree.specs.declared.table.ColumnDefinition.{ColumnDefinition}
 use Rattle.sql_tree.specs.declared.table.ColumnOption.{ColumnOption}
@@ -16,12 +17,12 @@ default_in [] = None
 default_in (DefaultOption default ∷ options) = Some default
 default_in (option ∷ options) = default_in options
 
-abbrev pub IsPrimaryOf : List ℕ → TableConstraintKind → Type 0
+abbrev pub IsPrimaryOf : NameBytes → TableConstraintKind → Type 0
 IsPrimaryOf name (PrimaryKey columns) = Contains columns name
 IsPrimaryOf name kind = ⊥
 
 -- a PRIMARY KEY with this column
-abbrev pub IsPrimaryWith : List ℕ → Part → Type 0
+abbrev pub IsPrimaryWith : NameBytes → Part → Type 0
 IsPrimaryWith name (Constraint k) = IsPrimaryOf name k.kind
 IsPrimaryWith name part = ⊥
 

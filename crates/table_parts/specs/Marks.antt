@@ -1,6 +1,7 @@
 -- What may not come twice in CREATE TABLE: a column, a constraint's name, a name in a list of columns, and PRIMARY KEY.
 use Rattle.std.specs.Prelude.{◌≡◌, ◌≢◌, ℕ, suc, List, [], ◌∷◌, ◌++◌, map, Option, None, Some}
 use Rattle.std.specs.List.{AllPairs, Contains}
+use Rattle.sql_names.specs.NameBytes.{NameBytes}
 use Rattle.sql_tree.specs.declared.table.TableConstraintKind.{TableConstraintKind}
 use Rattle.sql_tree.specs.declared.table.TableConstraintKind.TheVariants as kinds
 use Rattle.table_parts.specs.declared.marks.Mark.{Mark}
@@ -9,7 +10,7 @@ use Rattle.table_parts.specs.declared.parts.Part.{Part}
 use Rattle.table_parts.specs.declared.parts.Part.TheVariants as parts
 
 -- a constraint's name stands before what it says
-abbrev pub name_marks : Option (List ℕ) → List Mark
+abbrev pub name_marks : Option NameBytes → List Mark
 name_marks None = []
 name_marks (Some name) = marks.Constraint name ∷ []
 

@@ -1,6 +1,7 @@
 -- The columns and constraints of CREATE TABLE in reading order (table definition, SQL:2003 part 2, 11.3).
-use Rattle.std.specs.Prelude.{◌≡◌, ℕ, List, [], ◌∷◌}
+use Rattle.std.specs.Prelude.{◌≡◌, List, [], ◌∷◌}
 use Rattle.std.specs.List.{flat_map}
+use Rattle.sql_names.specs.NameBytes.{NameBytes}
 use Rattle.sql_tree.specs.declared.table.ColumnConstraint.{ColumnConstraint}
 use Rattle.sql_tree.specs.declared.table.ColumnConstraint.TheVariants as own
 use Rattle.sql_tree.specs.declared.table.ColumnDefinition.{ColumnDefinition}
@@ -15,14 +16,14 @@ use Rattle.table_parts.specs.declared.parts.Part.{Part}
 use Rattle.table_parts.specs.declared.parts.Part.TheVariants as parts
 
 -- a constraint of one column, as a constraint of the table
-abbrev pub own_kind : List ℕ → ColumnConstraint → TableConstraintKind
+abbrev pub own_kind : NameBytes → ColumnConstraint → TableConstraintKind
 own_kind column own.PrimaryKey = kinds.PrimaryKey (column ∷ [])
 own_kind column own.Unique = kinds.Unique (column ∷ [])
 own_kind column (own.References references) = kinds.ForeignKey (column ∷ []) references
 own_kind column (own.Check condition) = kinds.Check condition
 
 -- the constraint that stands among a column's options
-abbrev pub option_parts : List ℕ → ColumnOption → List Part
+abbrev pub option_parts : NameBytes → ColumnOption → List Part
 option_parts column (options.Constraint name constraint) = parts.Constraint (record { name = name; kind = own_kind column constraint }) ∷ []
 option_parts column option = []
 
@@ -54,6 +55,6 @@ abbrev pub columns_of : List Part → List ColumnDefinition
 columns_of all = flat_map column_of all
 
 -- the column of this name
-abbrev pub IsColumnNamed : List ℕ → Part → Type 0
+abbrev pub IsColumnNamed : NameBytes → Part → Type 0
 IsColumnNamed name (parts.Column c) = c.column ≡ name
 IsColumnNamed name (parts.Constraint k) = ⊥

@@ -1,6 +1,7 @@
 -- What a list of foreign keys needs.
-use Rattle.std.specs.Prelude.{◌≡◌, ℕ, List}
+use Rattle.std.specs.Prelude.{◌≡◌, List}
 use Rattle.std.specs.List.{Contains}
+use Rattle.sql_names.specs.NameBytes.{NameBytes}
 use Rattle.sql_names.specs.declared.object.Object.{Object}
 use Rattle.cat_items.specs.declared.edit.Refusal.{Refusal}
 use Rattle.cat_items.specs.declared.edit.Refusal.TheVariants.{NoPrivilege}
@@ -19,5 +20,5 @@ abbrev pub lacks_first : (Need → Type 0) → Refusal → Type 0
 lacks_first P refusal = (need : Need) × IsLeastNeed P need × (refusal ≡ NoPrivilege need)
 
 -- the least of those that aren't met for the owner of a schema
-abbrev pub lacks_least : List Item → List ℕ → (Need → Type 0) → Refusal → Type 0
+abbrev pub lacks_least : List Item → NameBytes → (Need → Type 0) → Refusal → Type 0
 lacks_least c schema P = lacks_first (λ n. P n × IsUnmetIn c schema n)

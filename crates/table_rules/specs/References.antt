@@ -1,6 +1,7 @@
 -- The REFERENCES privileges that the foreign keys of CREATE TABLE need (access rules, SQL:2003 part 2, 11.8).
-use Rattle.std.specs.Prelude.{◌≡◌, ◌≢◌, ℕ, false, List, [], ◌∷◌}
+use Rattle.std.specs.Prelude.{◌≡◌, ◌≢◌, false, List, [], ◌∷◌}
 use Rattle.std.specs.List.{Contains}
+use Rattle.sql_names.specs.NameBytes.{NameBytes}
 use Rattle.sql_names.specs.declared.object.Object.{Object}
 use Rattle.cat_items.specs.declared.edit.Refusal.{Refusal}
 use Rattle.cat_items.specs.declared.edit.Refusal.TheVariants.{NoPrivilege}
@@ -17,13 +18,13 @@ use Rattle.table_keys.specs.ForeignKeys.{IsForeignOf}
 
 -- a foreign key needs REFERENCES on each column of its target, but not on those of the table that is made itself
 abbrev pub IsNeededBy : Object → Foreign → Need → Type 0
-IsNeededBy made f need = (f.target ≢ made) × ((name : List ℕ) × Contains f.target_columns name × (need ≡ reference f.target name))
+IsNeededBy made f need = (f.target ≢ made) × ((name : NameBytes) × Contains f.target_columns name × (need ≡ reference f.target name))
 
 abbrev pub IsNeeded : List Item → List Key → Who → Object → List NamedConstraint → Need → Type 0
 IsNeeded c own who made named need = (f : Foreign) × IsForeignOf c own who made named f × IsNeededBy made f need
 
 -- for the owner of the schema it isn't met
-abbrev pub IsUnmetIn : List Item → List ℕ → Need → Type 0
+abbrev pub IsUnmetIn : List Item → NameBytes → Need → Type 0
 IsUnmetIn c schema need = ¬ (Has c (MeetsAll false c schema (need ∷ [])))
 
 -- the least of these needs that isn't met is told

@@ -1,6 +1,7 @@
 -- Types in CREATE TABLE: a default has the class of its column, and a foreign key's columns have those of their target.
 use Rattle.std.specs.Prelude.{◌≡◌, ◌≢◌, ◌⊎◌, ℕ, List, [], ◌∷◌, Option, None, Some, length, slice_get}
 use Rattle.std.specs.List.{Any}
+use Rattle.sql_names.specs.NameBytes.{NameBytes}
 use Rattle.sql_names.specs.declared.object.Object.{Object}
 use Rattle.sql_names.specs.declared.sort.Default.{Default}
 use Rattle.sql_tree.specs.declared.table.ColumnType.{ColumnType}
@@ -29,35 +30,35 @@ HasClass (bases.Type sort) class = class_of sort ≡ class
 HasClass (bases.Domain name) class = ⊥
 
 -- a column of this name and class, of the table that is made
-abbrev pub IsOwnOfClass : List ℕ → Class → Part → Type 0
+abbrev pub IsOwnOfClass : NameBytes → Class → Part → Type 0
 IsOwnOfClass name class (parts.Column d) = (d.column ≡ name) × HasClass d.sort class
 IsOwnOfClass name class (parts.Constraint k) = ⊥
 
 -- the same of a table of the catalogue
-abbrev pub IsOldOfClass : Object → List ℕ → Class → Item → Type 0
+abbrev pub IsOldOfClass : Object → NameBytes → Class → Item → Type 0
 IsOldOfClass table name class (item.Column x) = (x.table ≡ table) × (x.name ≡ name) × (class_of x.sort ≡ class)
 IsOldOfClass table name class x = ⊥
 
-abbrev pub IsOfClass : List Item → Object → List Part → Object → List ℕ → Class → Type 0
+abbrev pub IsOfClass : List Item → Object → List Part → Object → NameBytes → Class → Type 0
 IsOfClass c made all table name class = ((table ≡ made) × Any (IsOwnOfClass name class) all) ⊎ ((table ≢ made) × Has c (IsOldOfClass table name class))
 
 -- a column of the table that is made and one of a target are of two classes
-abbrev pub HaveTwoClasses : List Item → Object → List Part → List ℕ → Object → List ℕ → Type 0
+abbrev pub HaveTwoClasses : List Item → Object → List Part → NameBytes → Object → NameBytes → Type 0
 HaveTwoClasses c made all column target name = (x y : Class) × Any (IsOwnOfClass column x) all × IsOfClass c made all target name y × (x ≢ y)
 
 -- the columns at one place in two lists are
-abbrev pub HaveTwoClassesAt : List Item → Object → List Part → List (List ℕ) → Object → List (List ℕ) → Type 0
-HaveTwoClassesAt c made all columns target names = (at : ℕ) × (column name : List ℕ) × (slice_get columns at ≡ Some column) × (slice_get names at ≡ Some name)
+abbrev pub HaveTwoClassesAt : List Item → Object → List Part → List NameBytes → Object → List NameBytes → Type 0
+HaveTwoClassesAt c made all columns target names = (at : ℕ) × (column name : NameBytes) × (slice_get columns at ≡ Some column) × (slice_get names at ≡ Some name)
     × HaveTwoClasses c made all column target name
 
 -- the columns that REFERENCES means: those that are written, else those of the primary key
-abbrev pub AreMeant : List Item → List Key → Object → List (List ℕ) → List (List ℕ) → Type 0
+abbrev pub AreMeant : List Item → List Key → Object → List NameBytes → List NameBytes → Type 0
 AreMeant c own target [] names = (k : Key) × IsMeant c own target [] k × (names ≡ k.columns)
 AreMeant c own target (name ∷ written) names = names ≡ name ∷ written
 
 -- a foreign key with as many columns as are meant, two of which are of two classes
 abbrev pub IsMisfit : List Item → List Key → Who → Object → List Part → TableConstraintKind → Type 0
-IsMisfit c own who made all (kinds.ForeignKey columns references) = (names : List (List ℕ)) × AreMeant c own (target_of who references) references.columns names
+IsMisfit c own who made all (kinds.ForeignKey columns references) = (names : List NameBytes) × AreMeant c own (target_of who references) references.columns names
     × (length names ≡ length columns) × HaveTwoClassesAt c made all columns (target_of who references) names
 IsMisfit c own who made all kind = ⊥
 
