@@ -32,7 +32,7 @@ use Rattle.cat_engine.specs.Built.{IsBuilt}
 use Rattle.cat_engine.specs.ConnectionRefusals.{not_connected, connection_in_use, unknown_user}
 use Rattle.cat_engine.specs.Contents.{Content}
 use Rattle.cat_engine.specs.Effects.{Changes, ChangesSession, Revises, connection_of, success}
-use Rattle.cat_engine.specs.Refusals.{connection_name, for_current, for_statement, edit_refusals, invalid_role, MayBeRole, role_chosen, role_refusals, statement_refusals}
+use Rattle.cat_engine.specs.Refusals.{connection_name, for_current, for_statement, session_edit_refusals, invalid_role, MayBeRole, role_chosen, set_role_refusals, statement_refusals}
 use Rattle.cat_engine.specs.Sessions.{has_connection, session_of, who_of, with_session, connected, set_for}
 use Rattle.cat_engine.specs.Steps.{Answers}
 use Rattle.cat_engine.specs.WordRefusals.{Reads, bad_token, not_in_profile, syntax_error}
@@ -83,7 +83,7 @@ connect_done old number parts name sessions is free user made = (
 pub role_tested : (old new : Content) (number : ℕ) (who : Who) (choice : RoleChoice) → who_of old.sessions number ≡ Some who
     → Passes (First (invalid_role old.catalogue who (role_chosen choice) ∷ []))
     → ChangesSession number (λ s. set_for s (Role (role_chosen choice))) old new
-    → Passes (First (role_refusals number old choice)) × ChangesSession number (λ s. set_for s (Role (role_chosen choice))) old new
+    → Passes (First (set_role_refusals number old choice)) × ChangesSession number (λ s. set_for s (Role (role_chosen choice))) old new
 role_tested old new number who choice is passes change = (
   passes_more (not_connected old.sessions number) (for_current old.sessions number (λ w. invalid_role old.catalogue w (role_chosen choice)) ∷ []) (connected_passes old.sessions number who is)
       (passes_more (for_current old.sessions number (λ w. invalid_role old.catalogue w (role_chosen choice))) []
@@ -93,7 +93,7 @@ role_tested old new number who choice is passes change = (
 
 pub role_done : (old : Content) (number : ℕ) (who : Who) (choice : RoleChoice) (role : Option (List ℕ)) (sessions : List (ℕ × Session)) → who_of old.sessions number ≡ Some who → role ≡ role_chosen choice
     → Passes (First (invalid_role old.catalogue who role ∷ [])) → sessions ≡ with_session old.sessions number (set_for (session_of old.sessions number) (Role role))
-    → Passes (First (role_refusals number old choice)) × ChangesSession number (λ s. set_for s (Role (role_chosen choice))) old (record { catalogue = old.catalogue; sessions = sessions })
+    → Passes (First (set_role_refusals number old choice)) × ChangesSession number (λ s. set_for s (Role (role_chosen choice))) old (record { catalogue = old.catalogue; sessions = sessions })
 role_done old number who choice role sessions is chosen passes made =
     role_tested old (record { catalogue = old.catalogue; sessions = sessions }) number who choice is (subst (λ r. Passes (First (invalid_role old.catalogue who r ∷ []))) chosen passes)
     (ap (λ (s : List (ℕ × Session)). record { catalogue = old.catalogue; sessions = s })
@@ -121,7 +121,7 @@ built_edit s connect switch leave schema role = (λ h. h, λ h. h)
 
 -- its tests and what it does
 pub edit_tested : (limits : Limits) (number : ℕ) (old new : Content) (s : Statement) (result : Result (Option Warning) EditError) → IsBuiltEdit s
-    → Tested (edit_refusals limits number old s) (λ warning. Revises s number old warning new) (new ≡ old) result
+    → Tested (session_edit_refusals limits number old s) (λ warning. Revises s number old warning new) (new ≡ old) result
     → Tested (statement_refusals limits number old s) (λ warning. Changes s number old warning new) (new ≡ old) result
 edit_tested limits number old new (Connect c) result is h = absurd is
 edit_tested limits number old new (SetConnection n) result is h = absurd is
@@ -132,13 +132,13 @@ edit_tested limits number old new s result is h = h
 
 -- without a current connection it is refused
 pub unconnected : {T : Type 0} (limits : Limits) (number : ℕ) (old : Content) (s : Statement) (Done : T → Type 0) (same : Type 0) → who_of old.sessions number ≡ None → same
-    → Tested (edit_refusals limits number old s) Done same (Err (Refused NotConnected))
+    → Tested (session_edit_refusals limits number old s) Done same (Err (Refused NotConnected))
 unconnected limits number old s Done same none here = (inl (none, refl), here)
 
 -- with one it is what the revision of the catalogue is
 pub revised : (limits : Limits) (number : ℕ) (old new : Content) (who : Who) (s : Statement) (result : Result (Option Warning) EditError) → who_of old.sessions number ≡ Some who → new.sessions ≡ old.sessions
     → Tested (revision_refusals limits old.catalogue who s) (λ warning. IsRevised old.catalogue who s warning new.catalogue) (new.catalogue ≡ old.catalogue) result
-    → Tested (edit_refusals limits number old s) (λ warning. Revises s number old warning new) (new ≡ old) result
+    → Tested (session_edit_refusals limits number old s) (λ warning. Revises s number old warning new) (new ≡ old) result
 revised limits number old new who s (Ok warning) is kept h = (
   passes_more (not_connected old.sessions number) (for_current old.sessions number (λ w. First (revision_refusals limits old.catalogue w s)) ∷ []) (connected_passes old.sessions number who is)
       (passes_more (for_current old.sessions number (λ w. First (revision_refusals limits old.catalogue w s))) []

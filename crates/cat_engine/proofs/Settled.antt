@@ -16,7 +16,7 @@ use Rattle.catalogue_edits.proofs.Settled.{refusal_settled, revision_settled}
 use Rattle.cat_engine.specs.Contents.{Content, State}
 use Rattle.cat_engine.specs.Effects.{Changes, Revises, success}
 use Rattle.cat_engine.specs.Histories.{IsAfter, IsReplyAt}
-use Rattle.cat_engine.specs.Refusals.{for_current, for_statement, edit_refusals, invalid_role, role_chosen, statement_refusals, text_refusals}
+use Rattle.cat_engine.specs.Refusals.{for_current, for_statement, session_edit_refusals, invalid_role, role_chosen, statement_refusals, text_refusals}
 use Rattle.cat_engine.specs.Steps.{Answers, Step}
 use Rattle.cat_engine.specs.WordRefusals.{Reads, bad_token}
 use Rattle.cat_engine.specs.declared.journal.Entry.{Entry}
@@ -40,7 +40,7 @@ for_current_settled sessions number test settled a b p q =
     let same : p.0 ≡ q.0 = let e : Some p.0 ≡ Some q.0 = sym p.1 ∙ q.1 in cc in
     settled p.0 a b p.2 (subst (λ w. test w b) (sym same) q.2)
 
-edit_settled : (limits : Limits) (number : ℕ) (old : Content) (s : Statement) → AreSettled (edit_refusals limits number old s)
+edit_settled : (limits : Limits) (number : ℕ) (old : Content) (s : Statement) → AreSettled (session_edit_refusals limits number old s)
 edit_settled limits number old s = (
   (λ a b p q. p.1 ∙ sym q.1),
   (for_current_settled old.sessions number (λ who. First (revision_refusals limits old.catalogue who s)) (λ who. refusal_settled limits old.catalogue who s), tt),

@@ -26,5 +26,5 @@ bytes_held [] = 0
 bytes_held (entry ∷ entries) = bytes_of entry.text + bytes_held entries
 
 -- the journal has no room for this text
-abbrev pub IsFull : State → List ℕ → Type 0
-IsFull state text = state.limits.journal < bytes_held state.journal + bytes_of text
+abbrev pub IsJournalFull : State → List ℕ → Type 0
+IsJournalFull state text = state.limits.journal < bytes_held state.journal + bytes_of text

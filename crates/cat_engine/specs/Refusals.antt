@@ -46,12 +46,12 @@ abbrev pub invalid_role : List Item → Who → Option NameBytes → Refusal →
 invalid_role c who role refusal = (¬ (MayBeRole c who role)) × (refusal ≡ InvalidRole false)
 
 -- the tests of SET ROLE, in their order
-abbrev pub role_refusals : ℕ → Content → RoleChoice → List (Refusal → Type 0)
-role_refusals number old choice = not_connected old.sessions number ∷ for_current old.sessions number (λ who. invalid_role old.catalogue who (role_chosen choice)) ∷ []
+abbrev pub set_role_refusals : ℕ → Content → RoleChoice → List (Refusal → Type 0)
+set_role_refusals number old choice = not_connected old.sessions number ∷ for_current old.sessions number (λ who. invalid_role old.catalogue who (role_chosen choice)) ∷ []
 
 -- the tests of a statement that edits the catalogue, in their order
-abbrev pub edit_refusals : Limits → ℕ → Content → Statement → List (Refusal → Type 0)
-edit_refusals limits number old statement =
+abbrev pub session_edit_refusals : Limits → ℕ → Content → Statement → List (Refusal → Type 0)
+session_edit_refusals limits number old statement =
     not_connected old.sessions number
     ∷ for_current old.sessions number (λ who. First (revision_refusals limits old.catalogue who statement))
     ∷ []
@@ -62,8 +62,8 @@ statement_refusals limits number old (Connect c) = connection_in_use old.session
 statement_refusals limits number old (SetConnection name) = no_such_connection old.sessions number name ∷ []
 statement_refusals limits number old (Disconnect name) = no_such_connection old.sessions number name ∷ []
 statement_refusals limits number old (SetSchema name) = not_connected old.sessions number ∷ []
-statement_refusals limits number old (SetRole choice) = role_refusals number old choice
-statement_refusals limits number old statement = edit_refusals limits number old statement
+statement_refusals limits number old (SetRole choice) = set_role_refusals number old choice
+statement_refusals limits number old statement = session_edit_refusals limits number old statement
 
 -- a test of the statement that the text is
 abbrev pub for_statement : List ℕ → (Statement → Refusal → Type 0) → Refusal → Type 0

@@ -5,7 +5,7 @@ use Rattle.cat_items.specs.declared.edit.Refusal.{Refusal}
 use Rattle.cat_items.specs.declared.limits.Limits.{Limits}
 use Rattle.edit_rules.specs.First.{First, Passes}
 use Rattle.catalogue_edits.specs.declared.warning.Warning.{Warning}
-use Rattle.cat_engine.specs.Contents.{Content, State, bytes_held, IsFull}
+use Rattle.cat_engine.specs.Contents.{Content, State, bytes_held, IsJournalFull}
 use Rattle.cat_engine.specs.Effects.{Changes, success}
 use Rattle.cat_engine.specs.Refusals.{text_refusals}
 use Rattle.cat_engine.specs.WordRefusals.{Reads}
@@ -33,14 +33,14 @@ Answers limits number old text reply new = IsRefused limits number old text repl
 
 -- the journal has room for the text, which is answered, and gets its entry
 pub record IsEntered (old : State) (number : ℕ) (text : List ℕ) (reply : Reply) (new : State) : Type 0 where
-  pub room : ¬ (IsFull old text)
+  pub room : ¬ (IsJournalFull old text)
   pub answers : Answers old.limits number old.content text reply new.content
   pub journal : new.journal ≡ old.journal ++ record { session = number; text = text } ∷ []
   pub limits : new.limits ≡ old.limits
 
 -- the journal is full, and nothing changes
 pub record IsTurnedAway (old : State) (text : List ℕ) (reply : Reply) (new : State) : Type 0 where
-  pub full : IsFull old text
+  pub full : IsJournalFull old text
   pub told : reply ≡ JournalFull (bytes_held old.journal)
   pub same : new ≡ old
 

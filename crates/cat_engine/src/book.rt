@@ -7,7 +7,7 @@ ghost use Rattle.cat_items.specs.Good.{IsGood};
 ghost use Rattle.cat_items.specs.Shape.{IsAuthorizationName};
 ghost use Rattle.cat_engine.specs.Histories.{IsOpening, IsReached};
 ghost use Rattle.cat_engine.specs.Sessions.{who_of};
-ghost use Rattle.cat_engine.specs.Contents.{IsFull};
+ghost use Rattle.cat_engine.specs.Contents.{IsJournalFull};
 ghost use Rattle.cat_engine.specs.Steps.{IsEntered, StepOrNone};
 
 use crate::environment::Environment;
@@ -120,7 +120,7 @@ impl Book {
     // Answers a text for which the journal has room. All memory is taken before the first change.
     fn answer(&mut self, session: u32, text: &[u8]) -> Result<Reply, AllocError>
         requires few { length text.now ≤ 65535 }
-        requires room { ¬ (IsFull self.old text.now) }
+        requires room { ¬ (IsJournalFull self.old text.now) }
         ensures ok { IfOk result (λ reply. IsEntered self.old session text.now reply self.new) }
         ensures err { OnErr result (self.new ≡ self.old) }
     {

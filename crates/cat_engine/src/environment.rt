@@ -195,7 +195,7 @@ impl Environment {
     }
 
     fn set_role(&mut self, alloc: Global, number: u32, choice: RoleChoice) -> Result<(), EditError>
-        ensures { Tested (refusals.role_refusals number self.old choice)
+        ensures { Tested (refusals.set_role_refusals number self.old choice)
             (λ _. effects.ChangesSession number (λ s. set_for s (Role (refusals.role_chosen choice))) self.old self.new) (self.new ≡ self.old) result }
     {
         let role = role_chosen(choice);
@@ -217,7 +217,7 @@ impl Environment {
     ) -> Result<Option<Warning>, EditError>
         requires built { IsBuiltEdit statement.now }
         requires forms { HasForms statement.now }
-        ensures { Tested (refusals.edit_refusals limits.now number self.old statement.now)
+        ensures { Tested (refusals.session_edit_refusals limits.now number self.old statement.now)
             (λ warning. effects.Revises statement.now number self.old warning self.new) (self.new ≡ self.old) result }
     {
         match self.sessions.who(number) {

@@ -9,7 +9,7 @@ use Rattle.cat_items.specs.declared.item.Item.{Item}
 use Rattle.define_edit.specs.Creations.{IsBuiltCreation, IsCreation, creation_refusals}
 use Rattle.grant_edit.specs.Statements.{grant_refusals, GrantsEdit, IsGrantStatement, IsRevocation, IsRevokeStatement, revoke_refusals}
 use Rattle.drop_edit.specs.Drops.{IsBuiltDrop, IsDrop, drop_refusals}
-use Rattle.role_edit.specs.RoleEdits.{IsOnRoles, IsRoleEdit, role_refusals}
+use Rattle.role_edit.specs.RoleEdits.{IsOnRoles, IsRoleEdit, role_statement_refusals}
 
 -- the statements whose edits are built
 abbrev pub IsBuiltEdit : Statement → Type 0
@@ -29,9 +29,9 @@ abbrev pub edit_refusals : List Item → Who → Statement → List (Refusal →
 edit_refusals c who (CreateSchema s) = creation_refusals c who (CreateSchema s)
 edit_refusals c who (CreateTable s) = creation_refusals c who (CreateTable s)
 edit_refusals c who (DropObject d) = drop_refusals c who (DropObject d)
-edit_refusals c who (CreateRole r) = role_refusals c who (CreateRole r)
-edit_refusals c who (GrantRoles g) = role_refusals c who (GrantRoles g)
-edit_refusals c who (RevokeRoles g) = role_refusals c who (RevokeRoles g)
+edit_refusals c who (CreateRole r) = role_statement_refusals c who (CreateRole r)
+edit_refusals c who (GrantRoles g) = role_statement_refusals c who (GrantRoles g)
+edit_refusals c who (RevokeRoles g) = role_statement_refusals c who (RevokeRoles g)
 edit_refusals c who (DropRole role) = drop_refusals c who (DropRole role)
 edit_refusals c who (GrantPrivileges g) = grant_refusals c who (GrantPrivileges g)
 edit_refusals c who (RevokePrivileges g) = revoke_refusals c who (RevokePrivileges g)

@@ -3,7 +3,7 @@ use Rattle.std.proofs.Common.{◌≡◌, ◌<◌, ◌++◌, ◌∷◌, [], inl, 
 use Rattle.sql_words.specs.Stream.{Fits, ends, rest, rest_from, is_blank}
 use Rattle.svc_io.specs.Bytes.{Gave}
 use Rattle.cat_engine.specs.Contents.{State}
-use Rattle.ddl_service.specs.Script.{Script, RanOver, RanToEnd, IsWellEnded, Completes}
+use Rattle.ddl_service.specs.Script.{Script, RanOver, RanToEnd, IsWellEnded, ScriptCompletes}
 use Rattle.ddl_service.specs.declared.script.Ended.{Ended}
 use Rattle.ddl_service.specs.declared.script.Ended.TheVariants.{Done, ReadFault, WriteFault, TooLong, Unfinished}
 
@@ -45,7 +45,7 @@ unfinished limit a c l1 g0 g1 m stream ran well =
     let not_blank = ran.blank in cc
 
 pub completes : (ended : Ended) (limit : ℕ) (a c : State) (l0 l1 g0 g1 : Option (List ℕ)) (m : ℕ) (read_fault write_fault : Type 0) → Script ended limit a c l0 l1 g0 g1 m
-    → (ended ≡ ReadFault → read_fault) → (ended ≡ WriteFault → write_fault) → Completes ended limit l0 read_fault write_fault
+    → (ended ≡ ReadFault → read_fault) → (ended ≡ WriteFault → write_fault) → ScriptCompletes ended limit l0 read_fault write_fault
 completes Done limit a c l0 l1 g0 g1 m rf wf script is_read is_write stream is well no_read no_write = refl
 completes ReadFault limit a c l0 l1 g0 g1 m rf wf script is_read is_write stream is well no_read no_write = absurd (no_read (is_read refl))
 completes WriteFault limit a c l0 l1 g0 g1 m rf wf script is_read is_write stream is well no_read no_write = absurd (no_write (is_write refl))

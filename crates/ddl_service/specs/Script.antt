@@ -53,5 +53,5 @@ pub record IsWellEnded (limit : ℕ) (stream : List ℕ) : Type 0 where
   pub blank : is_blank (rest stream) ≡ true
 
 -- over such a stream, with no fault of its source or its sink, a script is done
-abbrev pub Completes : Ended → ℕ → Option (List ℕ) → Type 0 → Type 0 → Type 0
-Completes ended limit left read_fault write_fault = (stream : List ℕ) → left ≡ Some stream → IsWellEnded limit stream → ¬ read_fault → ¬ write_fault → ended ≡ Done
+abbrev pub ScriptCompletes : Ended → ℕ → Option (List ℕ) → Type 0 → Type 0 → Type 0
+ScriptCompletes ended limit left read_fault write_fault = (stream : List ℕ) → left ≡ Some stream → IsWellEnded limit stream → ¬ read_fault → ¬ write_fault → ended ≡ Done

@@ -4,7 +4,7 @@ use Rattle.cat_items.specs.declared.limits.Limits.{Limits}
 use Rattle.cat_engine.specs.Contents.{State}
 use Rattle.cat_engine.specs.Histories.{IsOpening}
 use Rattle.ddl_service.specs.Script.{IsWellEnded, Script}
-use Rattle.ddl_service.specs.Users.{Names}
+use Rattle.ddl_service.specs.Users.{NameUsers}
 use Rattle.ddl_service.specs.declared.script.Ended.{Ended}
 use Rattle.ddl_service.specs.declared.script.Ended.TheVariants as ended
 use Rattle.ddl_service.specs.declared.start.Status.{Status}
@@ -40,11 +40,11 @@ pub record Untouched (left_before left_after given_before given_after : Option (
 -- where the words name users their script ran; where they name none the program says so; before either, memory may run out
 abbrev pub Ends : List (List ℕ) → Status → Option (List ℕ) → Option (List ℕ) → Option (List ℕ) → Option (List ℕ) → Type 0
 Ends words status left_before left_after given_before given_after =
-    ((users : List (List ℕ)) × Names words users × RanScript status users left_before left_after given_before given_after)
-    ⊎ ((status ≡ Usage) × ((users : List (List ℕ)) → ¬ (Names words users)) × Untouched left_before left_after given_before given_after)
+    ((users : List (List ℕ)) × NameUsers words users × RanScript status users left_before left_after given_before given_after)
+    ⊎ ((status ≡ Usage) × ((users : List (List ℕ)) → ¬ (NameUsers words users)) × Untouched left_before left_after given_before given_after)
     ⊎ ((status ≡ OutOfMemory) × Untouched left_before left_after given_before given_after)
 
 -- where the words name users, the stream ends well and nothing fails, the program is done, unless memory runs out
-abbrev pub Completes : List (List ℕ) → Status → Option (List ℕ) → Type 0 → Type 0 → Type 0
-Completes words status left read_fault write_fault = (users : List (List ℕ)) (stream : List ℕ) → Names words users → left ≡ Some stream → IsWellEnded 1073741824 stream
+abbrev pub ProgramCompletes : List (List ℕ) → Status → Option (List ℕ) → Type 0 → Type 0 → Type 0
+ProgramCompletes words status left read_fault write_fault = (users : List (List ℕ)) (stream : List ℕ) → NameUsers words users → left ≡ Some stream → IsWellEnded 1073741824 stream
     → ¬ read_fault → ¬ write_fault → (status ≡ Done) ⊎ (status ≡ OutOfMemory)

@@ -37,6 +37,6 @@ pub record Lists (list : List ℕ) (users : List (List ℕ)) : Type 0 where
   pub are_users : AreUsers users
 
 -- the words are `script`, `--users` and a list of these users
-abbrev pub Names : List (List ℕ) → List (List ℕ) → Type 0
-Names (command ∷ option ∷ list ∷ []) users = (command ≡ codes "script") × (option ≡ codes "--users") × Lists list users
-Names words users = ⊥
+abbrev pub NameUsers : List (List ℕ) → List (List ℕ) → Type 0
+NameUsers (command ∷ option ∷ list ∷ []) users = (command ≡ codes "script") × (option ≡ codes "--users") × Lists list users
+NameUsers words users = ⊥

@@ -4,7 +4,7 @@ ghost use Rattle.cat_engine.specs.Steps.{StepOrNone};
 ghost use Rattle.sql_words.specs.Stream.{rest_from};
 ghost use Rattle.ddl_service.specs.Runs as runs;
 ghost use Rattle.ddl_service.specs.Runs.{Answered, Broke, Overran};
-ghost use Rattle.ddl_service.specs.Script.{Completes, Script};
+ghost use Rattle.ddl_service.specs.Script.{ScriptCompletes, Script};
 ghost use Rattle.ddl_service.specs.Stops.{Stops};
 ghost use Rattle.svc_io.specs.Bytes.{Gave, IsEmpty};
 ghost use Rattle.svc_io.specs.Faults.{HasCause, Rose};
@@ -203,7 +203,7 @@ pub fn run_script<S: Source, W: Sink>(
         (S.left source.old) (S.left source.new) (W.given sink.old) (W.given sink.new) result.missed }
     ensures read_fault { result.ended ≡ Ended.ReadFault → Rose (S.faults source.old) (S.faults source.new) }
     ensures write_fault { result.ended ≡ Ended.WriteFault → Rose (W.faults sink.old) (W.faults sink.new) }
-    ensures complete { Completes result.ended limits.now.stream (S.left source.old)
+    ensures complete { ScriptCompletes result.ended limits.now.stream (S.left source.old)
         (Rose (S.faults source.old) (S.faults source.new)) (Rose (W.faults sink.old) (W.faults sink.new)) }
     ensures source_later { S.faults source.old ≤ S.faults source.new }
     ensures sink_later { W.faults sink.old ≤ W.faults sink.new }

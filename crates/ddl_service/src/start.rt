@@ -2,7 +2,7 @@ ghost use Rattle.std.specs.Prelude.{◌≡◌, IfOk, OnErr, map};
 ghost use Rattle.std.specs.String.{string_bytes};
 ghost use Rattle.cat_engine.specs.Contents.{State};
 ghost use Rattle.cat_engine.specs.Histories.{IsOpening};
-ghost use Rattle.ddl_service.specs.Script.{Completes, Script};
+ghost use Rattle.ddl_service.specs.Script.{ScriptCompletes, Script};
 ghost use Rattle.ddl_service.specs.Top as spec;
 ghost use Rattle.ddl_service.specs.Users.{AreUsers};
 ghost use Rattle.svc_io.specs.Faults.{Rose};
@@ -52,7 +52,7 @@ fn script<S: Source, W: Sink>(
     ensures ok { IfOk result (λ ran. (before : State) × (after : State) × IsOpening users.now.items spec.standard_limits before × Script ran.ended 1073741824 before after
         (S.left source.old) (S.left source.new) (W.given sink.old) (W.given sink.new) ran.missed) }
     ensures err { OnErr result (spec.Untouched (S.left source.old) (S.left source.new) (W.given sink.old) (W.given sink.new)) }
-    ensures complete { IfOk result (λ ran. Completes ran.ended 1073741824 (S.left source.old)
+    ensures complete { IfOk result (λ ran. ScriptCompletes ran.ended 1073741824 (S.left source.old)
         (Rose (S.faults source.old) (S.faults source.new)) (Rose (W.faults sink.old) (W.faults sink.new))) }
     ensures read_fault { IfOk result (λ ran. ran.ended ≡ Ended.ReadFault → Rose (S.faults source.old) (S.faults source.new)) }
     ensures write_fault { IfOk result (λ ran. ran.ended ≡ Ended.WriteFault → Rose (W.faults sink.old) (W.faults sink.new)) }
@@ -73,7 +73,7 @@ pub fn top<S: Source, W: Sink>(
     // The words decide, and the script of their users runs from the opening to its end.
     ensures ends { spec.Ends (map (λ word. string_bytes word) words.now.items) result
         (S.left source.old) (S.left source.new) (W.given sink.old) (W.given sink.new) }
-    ensures complete { spec.Completes (map (λ word. string_bytes word) words.now.items) result (S.left source.old)
+    ensures complete { spec.ProgramCompletes (map (λ word. string_bytes word) words.now.items) result (S.left source.old)
         (Rose (S.faults source.old) (S.faults source.new)) (Rose (W.faults sink.old) (W.faults sink.new)) }
     ensures read_fault { result ≡ Status.ReadFault → Rose (S.faults source.old) (S.faults source.new) }
     ensures write_fault { result ≡ Status.WriteFault → Rose (W.faults sink.old) (W.faults sink.new) }

@@ -10,11 +10,11 @@ use Rattle.cat_items.specs.declared.need.Auth.TheVariants.{Named}
 use Rattle.cat_items.specs.Rights.{admin}
 use Rattle.edit_rules.specs.Chosen.{IsTaking}
 use Rattle.edit_rules.specs.Names.{unknown_role}
-use Rattle.edit_rules.specs.Privileges.{lacks_privilege}
+use Rattle.edit_rules.specs.Privileges.{no_privilege}
 
 -- the user needs an admin option of the role
 abbrev pub drop_role_refusals : List Item → Who → NameBytes → List (Refusal → Type 0)
-drop_role_refusals c who role = unknown_role c role ∷ lacks_privilege c who.user (admin role ∷ []) ∷ []
+drop_role_refusals c who role = unknown_role c role ∷ no_privilege c who.user (admin role ∷ []) ∷ []
 
 -- the role, the grants of it and to it, and the privileges that were granted to it
 abbrev pub IsOfRole : NameBytes → Item → Type 0

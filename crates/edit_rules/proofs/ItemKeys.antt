@@ -13,7 +13,7 @@ use Rattle.cat_items.specs.declared.item.Item.{Item}
 use Rattle.cat_items.specs.declared.item.Item.TheVariants as item
 use Rattle.cat_items.specs.Order.{name_cmp, need_cmp, auth_rank, auth_cmp, right_cmp, role_grant_cmp, action_number, kind_of, key_cmp, item_cmp}
 use Rattle.cat_items.proofs.OrderLemmas.{item_cmp-total}
-use Rattle.edit_rules.specs.Chosen.{IsGranted}
+use Rattle.edit_rules.specs.Chosen.{IsRightOrRoleGrant}
 
 action_number-is : (a b : Action) → action_number a ≡ action_number b → a ≡ b
 action_number-is action.Select action.Select e = refl
@@ -73,7 +73,7 @@ role_grant_cmp-is a b e =
 one_kind : (x y : Item) → item_cmp x y ≡ Equal → kind_of x ≡ kind_of y
 one_kind x y e = nat_cmp-IsAntisymmetric (kind_of x) (kind_of y) (both_equal (nat_cmp (kind_of x) (kind_of y)) (key_cmp x y) e).0
 
-granted_is : (x y : Item) → kind_of x ≡ kind_of y → IsGranted y → key_cmp x y ≡ Equal → x ≡ y
+granted_is : (x y : Item) → kind_of x ≡ kind_of y → IsRightOrRoleGrant y → key_cmp x y ≡ Equal → x ≡ y
 granted_is (item.Held a) (item.Held b) k w e = ap item.Held (right_cmp-is a b e)
 granted_is (item.Grantable a) (item.Grantable b) k w e = ap item.Grantable (right_cmp-is a b e)
 granted_is (item.RoleAuth a) (item.RoleAuth b) k w e = ap item.RoleAuth (role_grant_cmp-is a b e)
@@ -85,9 +85,9 @@ granted_is x (item.RoleAdmin b) k w e = absurd (omega (arith, k))
 granted_is x y k w e = absurd w
 
 -- an item with the key of a right or a role grant is that
-pub one_granted : (x y : Item) → IsGranted y → item_cmp x y ≡ Equal → x ≡ y
+pub one_granted : (x y : Item) → IsRightOrRoleGrant y → item_cmp x y ≡ Equal → x ≡ y
 one_granted x y w e = granted_is x y (one_kind x y e) w (both_equal (nat_cmp (kind_of x) (kind_of y)) (key_cmp x y) e).1
 
 -- and the other way round
-pub only_granted : (x y : Item) → IsGranted x → item_cmp x y ≡ Equal → x ≡ y
+pub only_granted : (x y : Item) → IsRightOrRoleGrant x → item_cmp x y ≡ Equal → x ≡ y
 only_granted x y w e = sym (one_granted y x w (item_cmp-total.antisymm y x ∙ ap ordering_reverse e))

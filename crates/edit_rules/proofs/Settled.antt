@@ -13,7 +13,7 @@ use Rattle.cat_items.specs.Order.{need_cmp}
 use Rattle.cat_items.proofs.OrderLemmas.{need_cmp-total}
 use Rattle.edit_rules.proofs.ItemKeys.{need_cmp-is}
 use Rattle.edit_rules.specs.Grantors.{IsGrantor}
-use Rattle.edit_rules.specs.Privileges.{IsLeastNeed, lacks_privilege}
+use Rattle.edit_rules.specs.Privileges.{IsLeastNeed, no_privilege}
 use Rattle.edit_rules.proofs.FirstLaws.{IsSettled}
 
 -- a statement has one grantor
@@ -32,5 +32,5 @@ least_settled P a b p q = need_cmp-is a b (by (need_cmp a b) (p.least b q.is) (�
     by Greater g l = absurd (g refl)
 
 -- one need is told of those that aren't met
-pub lacks_settled : (c : List Item) (owner : List ℕ) (needs : List Need) → IsSettled (lacks_privilege c owner needs)
+pub lacks_settled : (c : List Item) (owner : List ℕ) (needs : List Need) → IsSettled (no_privilege c owner needs)
 lacks_settled c owner needs a b p q = p.2 ∙ ap NoPrivilege (least_settled _ p.0 q.0 p.1 q.1) ∙ sym q.2

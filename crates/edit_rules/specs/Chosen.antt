@@ -16,12 +16,12 @@ abbrev pub AreChosen : List Item → (Item → Type 0) → List Item → Type 0
 AreChosen c P items = AreAll (λ x. Contains c x × P x) items
 
 -- a right or a role grant
-abbrev pub IsGranted : Item → Type 0
-IsGranted (item.RoleAuth g) = Unit {0}
-IsGranted (item.RoleAdmin g) = Unit {0}
-IsGranted (item.Held r) = Unit {0}
-IsGranted (item.Grantable r) = Unit {0}
-IsGranted x = ⊥
+abbrev pub IsRightOrRoleGrant : Item → Type 0
+IsRightOrRoleGrant (item.RoleAuth g) = Unit {0}
+IsRightOrRoleGrant (item.RoleAdmin g) = Unit {0}
+IsRightOrRoleGrant (item.Held r) = Unit {0}
+IsRightOrRoleGrant (item.Grantable r) = Unit {0}
+IsRightOrRoleGrant x = ⊥
 
 -- the edit adds what is so, and nothing else is done
 pub record IsAdding (P : Item → Type 0) (edit : Edit) : Type 0 where

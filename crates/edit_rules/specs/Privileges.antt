@@ -31,5 +31,5 @@ IsBehind None need = ⊥
 IsBehind (Some least) need = need_cmp least need ≢ Greater
 
 -- not all of these needs are met; the least that isn't is told
-abbrev pub lacks_privilege : List Item → NameBytes → List Need → Refusal → Type 0
-lacks_privilege c owner needs refusal = (need : Need) × IsLeastNeed (IsUnmet c owner needs) need × (refusal ≡ NoPrivilege need)
+abbrev pub no_privilege : List Item → NameBytes → List Need → Refusal → Type 0
+no_privilege c owner needs refusal = (need : Need) × IsLeastNeed (IsUnmet c owner needs) need × (refusal ≡ NoPrivilege need)

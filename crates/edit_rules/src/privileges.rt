@@ -5,7 +5,7 @@ ghost use Rattle.std.specs.Option.{option_copied};
 ghost use Rattle.cat_items.specs.Rights.{admin};
 ghost use Rattle.role_graph.specs.Roles.{IsRoomFor};
 ghost use Rattle.edit_rules.specs.First.{HasPassed};
-ghost use Rattle.edit_rules.specs.Privileges.{IsBehind, IsLeastUnmet, lacks_privilege};
+ghost use Rattle.edit_rules.specs.Privileges.{IsBehind, IsLeastUnmet, no_privilege};
 
 use cat_items::{Catalogue, EditError, Need, Refusal};
 use grant_chain::met_by;
@@ -64,7 +64,7 @@ pub fn test_privileges(
     owner: &Name,
     needs: &Items<Need>,
 ) -> Result<(), EditError>
-    ensures { HasPassed (lacks_privilege c.now.items owner.now needs.now ∷ []) result }
+    ensures { HasPassed (no_privilege c.now.items owner.now needs.now ∷ []) result }
 {
     let mut walk = Walk::new(alloc, c)?;
     match least_unmet(c, &mut walk, owner, needs) {

@@ -22,7 +22,7 @@ use Rattle.cat_items.specs.declared.edit.Refusal.TheVariants.{NoPrivilege}
 use Rattle.edit_rules.specs.First.{First, Passes}
 use Rattle.edit_rules.specs.Privileges.{IsLeastNeed}
 use Rattle.edit_rules.proofs.FirstLaws.{passes_one}
-use Rattle.grant_edit.specs.Grants.{AllGranted, CanGrant, GoesAlong, IsColumnGrant, IsColumnPrivilege, IsGranted, IsOnColumns, grants_nothing}
+use Rattle.grant_edit.specs.Grants.{AllGranted, CanGrant, GoesAlong, IsColumnGrant, IsColumnPrivilege, IsToBeGranted, IsOnColumns, no_privilege_to_grant}
 use Rattle.grant_edit.specs.Named.{IsLeastOf, IsRefused}
 use Rattle.grant_edit.proofs.Lists.{contains_both, contains_one, contains_push}
 use Rattle.grant_edit.proofs.NamedLemmas.{same_need}
@@ -150,48 +150,48 @@ module _ (c : List Item) (grantor : List ℕ) (object : Object) where
 
   -- ---- what is granted
 
-  pub none_granted : (named : List Need) (need : Need) → IsGranted c grantor object (take 0 named) need → ⊥
+  pub none_granted : (named : List Need) (need : Need) → IsToBeGranted c grantor object (take 0 named) need → ⊥
   none_granted named need h = elim h.0 [ inl m ↦ Contains-nil need m | inr along ↦ Contains-nil (object_need need.action object) along.3 ]
 
-  granted_both : (xs ys : List Need) (need : Need) → IsGranted c grantor object (xs ++ ys) need ↔ (IsGranted c grantor object xs need ⊎ IsGranted c grantor object ys need)
+  granted_both : (xs ys : List Need) (need : Need) → IsToBeGranted c grantor object (xs ++ ys) need ↔ (IsToBeGranted c grantor object xs need ⊎ IsToBeGranted c grantor object ys need)
   granted_both xs ys need = (λ h. to h.0 h.1, back)
     where
-      to : Contains (xs ++ ys) need ⊎ GoesAlong c grantor object (xs ++ ys) need → CanGrant c grantor need → IsGranted c grantor object xs need ⊎ IsGranted c grantor object ys need
+      to : Contains (xs ++ ys) need ⊎ GoesAlong c grantor object (xs ++ ys) need → CanGrant c grantor need → IsToBeGranted c grantor object xs need ⊎ IsToBeGranted c grantor object ys need
       to (inl m) can = elim ((contains_both xs ys need).0 m) [ inl a ↦ inl (inl a, can) | inr b ↦ inr (inl b, can) ]
       to (inr g) can = elim ((contains_both xs ys (object_need need.action object)).0 g.3) [
         | inl a ↦ inl (inr (g.0, g.1, g.2, a, g.4), can)
         | inr b ↦ inr (inr (g.0, g.1, g.2, b, g.4), can)
       ]
 
-      more : (zs : List Need) → ((n : Need) → Contains zs n → Contains (xs ++ ys) n) → IsGranted c grantor object zs need → IsGranted c grantor object (xs ++ ys) need
+      more : (zs : List Need) → ((n : Need) → Contains zs n → Contains (xs ++ ys) n) → IsToBeGranted c grantor object zs need → IsToBeGranted c grantor object (xs ++ ys) need
       more zs within h = elim h.0 [
         | inl m ↦ (inl (within need m), h.1)
         | inr g ↦ (inr (g.0, g.1, g.2, within (object_need need.action object) g.3, g.4), h.1)
       ]
 
-      back : IsGranted c grantor object xs need ⊎ IsGranted c grantor object ys need → IsGranted c grantor object (xs ++ ys) need
+      back : IsToBeGranted c grantor object xs need ⊎ IsToBeGranted c grantor object ys need → IsToBeGranted c grantor object (xs ++ ys) need
       back (inl h) = more xs (λ n m. (contains_both xs ys n).1 (inl m)) h
       back (inr h) = more ys (λ n m. (contains_both xs ys n).1 (inr m)) h
 
   -- a privilege more that can be granted
   pub granted_more : (old new front : List Need) (need : Need)
-      → ((n : Need) → Contains old n ↔ IsGranted c grantor object front n)
-      → ((n : Need) → Contains new n ↔ (Contains old n ⊎ IsGranted c grantor object (need ∷ []) n))
-      → (n : Need) → Contains new n ↔ IsGranted c grantor object (front ++ need ∷ []) n
+      → ((n : Need) → Contains old n ↔ IsToBeGranted c grantor object front n)
+      → ((n : Need) → Contains new n ↔ (Contains old n ⊎ IsToBeGranted c grantor object (need ∷ []) n))
+      → (n : Need) → Contains new n ↔ IsToBeGranted c grantor object (front ++ need ∷ []) n
   granted_more old new front need before after n = (
     λ h. (granted_both front (need ∷ []) n).1 (to ((after n).0 h)),
     λ h. (after n).1 (back ((granted_both front (need ∷ []) n).0 h)),
   )
     where
-      to : Contains old n ⊎ IsGranted c grantor object (need ∷ []) n → IsGranted c grantor object front n ⊎ IsGranted c grantor object (need ∷ []) n
+      to : Contains old n ⊎ IsToBeGranted c grantor object (need ∷ []) n → IsToBeGranted c grantor object front n ⊎ IsToBeGranted c grantor object (need ∷ []) n
       to (inl h) = inl ((before n).0 h)
       to (inr h) = inr h
 
-      back : IsGranted c grantor object front n ⊎ IsGranted c grantor object (need ∷ []) n → Contains old n ⊎ IsGranted c grantor object (need ∷ []) n
+      back : IsToBeGranted c grantor object front n ⊎ IsToBeGranted c grantor object (need ∷ []) n → Contains old n ⊎ IsToBeGranted c grantor object (need ∷ []) n
       back (inl h) = inl ((before n).1 h)
       back (inr h) = inr h
 
-  not_granted : (need n : Need) → (CanGrant c grantor need → ⊥) → IsGranted c grantor object (need ∷ []) n → ⊥
+  not_granted : (need n : Need) → (CanGrant c grantor need → ⊥) → IsToBeGranted c grantor object (need ∷ []) n → ⊥
   not_granted need n cannot h = elim h.0 [
     | inl m ↦ cannot (subst (CanGrant c grantor) (sym (contains_one need n m)) h.1)
     | inr g ↦ cannot (subst (CanGrant c grantor) (sym (contains_one need (object_need n.action object) g.3)) g.4)
@@ -199,15 +199,15 @@ module _ (c : List Item) (grantor : List ℕ) (object : Object) where
 
   -- one more that can't be
   pub granted_same : (old front : List Need) (need : Need)
-      → ((n : Need) → Contains old n ↔ IsGranted c grantor object front n)
+      → ((n : Need) → Contains old n ↔ IsToBeGranted c grantor object front n)
       → (CanGrant c grantor need → ⊥)
-      → (n : Need) → Contains old n ↔ IsGranted c grantor object (front ++ need ∷ []) n
+      → (n : Need) → Contains old n ↔ IsToBeGranted c grantor object (front ++ need ∷ []) n
   granted_same old front need before cannot n = (
     λ h. (granted_both front (need ∷ []) n).1 (inl ((before n).0 h)),
     λ h. back ((granted_both front (need ∷ []) n).0 h),
   )
     where
-      back : IsGranted c grantor object front n ⊎ IsGranted c grantor object (need ∷ []) n → Contains old n
+      back : IsToBeGranted c grantor object front n ⊎ IsToBeGranted c grantor object (need ∷ []) n → Contains old n
       back (inl h) = (before n).1 h
       back (inr h) = absurd (not_granted need n cannot h)
 
@@ -219,21 +219,21 @@ module _ (c : List Item) (grantor : List ℕ) (object : Object) where
   -- with those on its columns
   pub with_columns : (old new : List Need) (need : Need) → need.on ≡ path_of object → need.column ≡ None → IsOnColumns need.action → CanGrant c grantor need
       → ((n : Need) → Contains new n ↔ (Contains (old ++ need ∷ []) n ⊎ IsColumnPrivilege c grantor object need.action n))
-      → (n : Need) → Contains new n ↔ (Contains old n ⊎ IsGranted c grantor object (need ∷ []) n)
+      → (n : Need) → Contains new n ↔ (Contains old n ⊎ IsToBeGranted c grantor object (need ∷ []) n)
   with_columns old new need on none columns can after n = (λ h. to ((after n).0 h), λ h. (after n).1 (back h))
     where
-      itself : need ≡ n → IsGranted c grantor object (need ∷ []) n
-      itself e = subst (IsGranted c grantor object (need ∷ [])) e (inl (Contains-head need []), can)
+      itself : need ≡ n → IsToBeGranted c grantor object (need ∷ []) n
+      itself e = subst (IsToBeGranted c grantor object (need ∷ [])) e (inl (Contains-head need []), can)
 
-      along : (name : List ℕ) → CanGrant c grantor (column_need need.action object name) → IsGranted c grantor object (need ∷ []) (column_need need.action object name)
+      along : (name : List ℕ) → CanGrant c grantor (column_need need.action object name) → IsToBeGranted c grantor object (need ∷ []) (column_need need.action object name)
       along name granted = (
         inr (name, refl, columns, subst (Contains (need ∷ [])) (whole need on none) (Contains-head need []), subst (CanGrant c grantor) (whole need on none) can),
         granted,
       )
 
-      to : Contains (old ++ need ∷ []) n ⊎ IsColumnPrivilege c grantor object need.action n → Contains old n ⊎ IsGranted c grantor object (need ∷ []) n
+      to : Contains (old ++ need ∷ []) n ⊎ IsColumnPrivilege c grantor object need.action n → Contains old n ⊎ IsToBeGranted c grantor object (need ∷ []) n
       to (inl h) = elim ((contains_push old need n).0 h) [ inl before ↦ inl before | inr e ↦ inr (itself e) ]
-      to (inr h) = inr (subst (IsGranted c grantor object (need ∷ [])) (sym h.1) (along h.0 (subst (CanGrant c grantor) h.1 h.2)))
+      to (inr h) = inr (subst (IsToBeGranted c grantor object (need ∷ [])) (sym h.1) (along h.0 (subst (CanGrant c grantor) h.1 h.2)))
 
       of_granted : Contains (need ∷ []) n ⊎ GoesAlong c grantor object (need ∷ []) n → CanGrant c grantor n → Contains (old ++ need ∷ []) n ⊎ IsColumnPrivilege c grantor object need.action n
       of_granted (inl m) can_n = inl ((contains_push old need n).1 (inr (contains_one need n m)))
@@ -242,18 +242,18 @@ module _ (c : List Item) (grantor : List ℕ) (object : Object) where
           let action : n.action ≡ need.action = sym (ap (λ (m : Need). m.action) same) in
           inr (g.0, g.1 ∙ ap (λ a. column_need a object g.0) action, can_n)
 
-      back : Contains old n ⊎ IsGranted c grantor object (need ∷ []) n → Contains (old ++ need ∷ []) n ⊎ IsColumnPrivilege c grantor object need.action n
+      back : Contains old n ⊎ IsToBeGranted c grantor object (need ∷ []) n → Contains (old ++ need ∷ []) n ⊎ IsColumnPrivilege c grantor object need.action n
       back (inl h) = inl ((contains_push old need n).1 (inl h))
       back (inr h) = of_granted h.0 h.1
 
   -- alone
   pub without_columns : (old : List Need) (need : Need) → (need.column ≡ None → IsOnColumns need.action → ⊥) → CanGrant c grantor need
-      → (n : Need) → Contains (old ++ need ∷ []) n ↔ (Contains old n ⊎ IsGranted c grantor object (need ∷ []) n)
+      → (n : Need) → Contains (old ++ need ∷ []) n ↔ (Contains old n ⊎ IsToBeGranted c grantor object (need ∷ []) n)
   without_columns old need apart can n = (λ h. to ((contains_push old need n).0 h), λ h. (contains_push old need n).1 (back h))
     where
-      to : Contains old n ⊎ (need ≡ n) → Contains old n ⊎ IsGranted c grantor object (need ∷ []) n
+      to : Contains old n ⊎ (need ≡ n) → Contains old n ⊎ IsToBeGranted c grantor object (need ∷ []) n
       to (inl h) = inl h
-      to (inr e) = inr (subst (IsGranted c grantor object (need ∷ [])) e (inl (Contains-head need []), can))
+      to (inr e) = inr (subst (IsToBeGranted c grantor object (need ∷ [])) e (inl (Contains-head need []), can))
 
       of_granted : Contains (need ∷ []) n ⊎ GoesAlong c grantor object (need ∷ []) n → need ≡ n
       of_granted (inl m) = contains_one need n m
@@ -262,7 +262,7 @@ module _ (c : List Item) (grantor : List ℕ) (object : Object) where
           let action : n.action ≡ need.action = sym (ap (λ (m : Need). m.action) same) in
           absurd (apart (ap (λ (m : Need). m.column) same) (subst IsOnColumns action g.2))
 
-      back : Contains old n ⊎ IsGranted c grantor object (need ∷ []) n → Contains old n ⊎ (need ≡ n)
+      back : Contains old n ⊎ IsToBeGranted c grantor object (need ∷ []) n → Contains old n ⊎ (need ≡ n)
       back (inl h) = inl h
       back (inr h) = inr (of_granted h.0)
 
@@ -279,7 +279,7 @@ pub not_all : (c : List Item) (grantor : List ℕ) (front : List Need) (need : N
 not_all c grantor front need cannot = (need, (contains_push front need need).1 (inr refl), cannot)
 
 -- what is granted shows something named that can be
-pub some_named : (c : List Item) (grantor : List ℕ) (object : Object) (named : List Need) (need : Need) → IsGranted c grantor object named need → (n : Need) × Contains named n × CanGrant c grantor n
+pub some_named : (c : List Item) (grantor : List ℕ) (object : Object) (named : List Need) (need : Need) → IsToBeGranted c grantor object named need → (n : Need) × Contains named n × CanGrant c grantor n
 some_named c grantor object named need h = elim h.0 [ inl m ↦ (need, m, h.1) | inr g ↦ (object_need need.action object, g.3, g.4) ]
 
 -- ---- what is refused
@@ -288,14 +288,14 @@ pub refused_of : (named granted : List Need) (o : Option Need) → granted ≡ [
 refused_of named granted None none least = inr least
 refused_of named granted (Some need) none least = (none, least)
 
-module _ (c : List Item) (grantor : List ℕ) (object : Object) (named granted : List Need) (members : (need : Need) → Contains granted need ↔ IsGranted c grantor object named need) where
-  pub refuses_nothing : (need : Need) → granted ≡ [] → IsLeastNeed (Contains named) need → grants_nothing c grantor named (NoPrivilege need)
+module _ (c : List Item) (grantor : List ℕ) (object : Object) (named granted : List Need) (members : (need : Need) → Contains granted need ↔ IsToBeGranted c grantor object named need) where
+  pub refuses_nothing : (need : Need) → granted ≡ [] → IsLeastNeed (Contains named) need → no_privilege_to_grant c grantor named (NoPrivilege need)
   refuses_nothing need none least = (λ n h can. Contains-nil n (subst (λ l. Contains l n) none ((members n).1 (inl h, can))), (need, least, refl))
 
-  pub passes_some : ((need : Need) × Contains granted need) ⊎ ((need : Need) → ¬ (Contains named need)) → Passes (First (grants_nothing c grantor named ∷ []))
-  passes_some some = passes_one (grants_nothing c grantor named) (by some)
+  pub passes_some : ((need : Need) × Contains granted need) ⊎ ((need : Need) → ¬ (Contains named need)) → Passes (First (no_privilege_to_grant c grantor named ∷ []))
+  passes_some some = passes_one (no_privilege_to_grant c grantor named) (by some)
     where
-      by : ((need : Need) × Contains granted need) ⊎ ((need : Need) → ¬ (Contains named need)) → Passes (grants_nothing c grantor named)
+      by : ((need : Need) × Contains granted need) ⊎ ((need : Need) → ¬ (Contains named need)) → Passes (no_privilege_to_grant c grantor named)
       by (inl some) refusal r = let can = some_named c grantor object named some.0 ((members some.0).0 some.1) in r.0 can.0 can.1 can.2
       by (inr none) refusal r = none r.1.0 r.1.1.is
 

@@ -23,7 +23,7 @@ use Rattle.edit_laws.proofs.Fits.{edited_of_taking, fit_of_adding, fit_of_taking
 use Rattle.edit_laws.proofs.GoodCatalogues.{good_order}
 use Rattle.edit_laws.proofs.Shapes.{keeps_without_columns, plain_derived, right_is_no_column, shape_of_plain, shape_of_taking}
 use Rattle.edit_rules.specs.Chosen.{IsAdding, IsTaking}
-use Rattle.grant_edit.specs.Revokes.{IsIdentified}
+use Rattle.grant_edit.specs.Revokes.{IsIdentifiedRight}
 use Rattle.grant_edit.proofs.RightLemmas.{same_right}
 
 right_has_no_shape : (x : Item) → IsRight x → HasNoShape x
@@ -55,18 +55,18 @@ adding_is_sound c P edit good adds right =
     whole : adding edit.added ≡ edit
     whole = λ i. record { target = sym adds.target i; changed = sym adds.changed i; added = edit.added }
 
-identified_right : (object : Object) (named : List Need) (grantor : List ℕ) (whom : List Auth) (alone : Bool) (x : Item) → IsIdentified object named grantor whom alone x → IsRight x
+identified_right : (object : Object) (named : List Need) (grantor : List ℕ) (whom : List Auth) (alone : Bool) (x : Item) → IsIdentifiedRight object named grantor whom alone x → IsRight x
 identified_right object named grantor whom alone (item.Held r) h = tt
 identified_right object named grantor whom alone (item.Grantable r) h = tt
 identified_right object named grantor whom alone _ h = absurd h
 
-identified_by : (object : Object) (named : List Need) (grantor : List ℕ) (whom : List Auth) (alone : Bool) (x : Item) → IsIdentified object named grantor whom alone x → ¬ (IsBySystem x)
+identified_by : (object : Object) (named : List Need) (grantor : List ℕ) (whom : List Auth) (alone : Bool) (x : Item) → IsIdentifiedRight object named grantor whom alone x → ¬ (IsBySystem x)
 identified_by object named grantor whom alone (item.Held r) h e = let by = h.1.1 in cc
 identified_by object named grantor whom alone (item.Grantable r) h e = let by = h.1 in cc
 identified_by object named grantor whom alone _ h e = h
 
 -- rights by a named grantor that are destroyed
-pub taking_is_sound : (c : List Item) (object : Object) (named : List Need) (grantor : List ℕ) (whom : List Auth) (alone : Bool) (edit : Edit) → IsGood c → IsTaking c (IsIdentified object named grantor whom alone) edit → IsSound c edit
+pub taking_is_sound : (c : List Item) (object : Object) (named : List Need) (grantor : List ℕ) (whom : List Auth) (alone : Bool) (edit : Edit) → IsGood c → IsTaking c (IsIdentifiedRight object named grantor whom alone) edit → IsSound c edit
 taking_is_sound c object named grantor whom alone edit good takes =
     let within : IsWithin edit.target c = λ x h. ((takes.target.members x).0 h).0 in
     let edited = edited_of_taking c edit.target (good_order c good) within in

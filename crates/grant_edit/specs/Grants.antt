@@ -38,8 +38,8 @@ GoesAlong c grantor object named need = (name : NameBytes) × (need ≡ column_n
     × Contains named (object_need need.action object) × CanGrant c grantor (object_need need.action object)
 
 -- what is granted: of what is named and what goes along, that which can be
-abbrev pub IsGranted : List Item → NameBytes → Object → List Need → Need → Type 0
-IsGranted c grantor object named need = (Contains named need ⊎ GoesAlong c grantor object named need) × CanGrant c grantor need
+abbrev pub IsToBeGranted : List Item → NameBytes → Object → List Need → Need → Type 0
+IsToBeGranted c grantor object named need = (Contains named need ⊎ GoesAlong c grantor object named need) × CanGrant c grantor need
 
 -- a privilege of the grantor to one of these
 abbrev pub IsGrantTo : (Need → Type 0) → NameBytes → List Auth → Right → Type 0
@@ -52,8 +52,8 @@ IsGrant granted grantor grantees option (item.Grantable r) = IsTrue option × Is
 IsGrant granted grantor grantees option x = ⊥
 
 -- nothing that is named can be granted; the least of it is told
-abbrev pub grants_nothing : List Item → NameBytes → List Need → Refusal → Type 0
-grants_nothing c grantor named refusal = ((need : Need) → Contains named need → ¬ (CanGrant c grantor need))
+abbrev pub no_privilege_to_grant : List Item → NameBytes → List Need → Refusal → Type 0
+no_privilege_to_grant c grantor named refusal = ((need : Need) → Contains named need → ¬ (CanGrant c grantor need))
     × ((need : Need) × IsLeastNeed (Contains named) need × (refusal ≡ NoPrivilege need))
 
 -- one of these that can be granted, and one that can't
@@ -87,6 +87,6 @@ IsColumnPrivilege c grantor object action need = (name : NameBytes) × (need ≡
 
 -- what a grantor grants of what is named: something can be granted, or nothing is named
 pub record IsGrantedBy (c : List Item) (grantor : NameBytes) (object : Object) (named : List Need) (granted : Granted) : Type 0 where
-  pub members : (need : Need) → Contains granted.needs.items need ↔ IsGranted c grantor object named need
+  pub members : (need : Need) → Contains granted.needs.items need ↔ IsToBeGranted c grantor object named need
   pub all : AllGranted c grantor named granted.all
   pub some : ((need : Need) × Contains named need × CanGrant c grantor need) ⊎ ((need : Need) → ¬ (Contains named need))

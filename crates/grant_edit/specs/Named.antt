@@ -55,6 +55,6 @@ IsRefused named granted None = ((need : Need) × Contains granted need) ⊎ ((ne
 IsRefused named granted (Some need) = (granted ≡ []) × IsLeastNeed (Contains named) need
 
 -- less is granted than is listed; ALL PRIVILEGES asks for no more than can be granted
-abbrev pub is_partial : Bool → Privileges → Bool
-is_partial all All = false
-is_partial all (Listed listed) = not all
+abbrev pub grants_less_than_listed : Bool → Privileges → Bool
+grants_less_than_listed all All = false
+grants_less_than_listed all (Listed listed) = not all

@@ -30,7 +30,7 @@ abbrev pub IsRevokedRight : Object → List Need → NameBytes → List Auth →
 IsRevokedRight object named grantor grantees r = IsRevoked object named r.need × (r.grantor ≡ Named grantor) × Contains grantees r.grantee
 
 -- it is taken held and with grant option, by GRANT OPTION FOR with grant option alone
-abbrev pub IsIdentified : Object → List Need → NameBytes → List Auth → Bool → Item → Type 0
-IsIdentified object named grantor grantees option_alone (item.Held r) = (option_alone ≡ false) × IsRevokedRight object named grantor grantees r
-IsIdentified object named grantor grantees option_alone (item.Grantable r) = IsRevokedRight object named grantor grantees r
-IsIdentified object named grantor grantees option_alone x = ⊥
+abbrev pub IsIdentifiedRight : Object → List Need → NameBytes → List Auth → Bool → Item → Type 0
+IsIdentifiedRight object named grantor grantees option_alone (item.Held r) = (option_alone ≡ false) × IsRevokedRight object named grantor grantees r
+IsIdentifiedRight object named grantor grantees option_alone (item.Grantable r) = IsRevokedRight object named grantor grantees r
+IsIdentifiedRight object named grantor grantees option_alone x = ⊥

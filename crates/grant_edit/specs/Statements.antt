@@ -17,10 +17,10 @@ use Rattle.edit_rules.specs.Grantors.{IsGrantor, no_current_role}
 use Rattle.edit_rules.specs.Names.{object_in}
 use Rattle.grant_edit.specs.declared.grants.Granting.{Granting}
 use Rattle.edit_rules.specs.Chosen.{IsAdding, IsTaking}
-use Rattle.grant_edit.specs.Grants.{IsGrant, IsGranted, IsPartial, grants_nothing}
+use Rattle.grant_edit.specs.Grants.{IsGrant, IsToBeGranted, IsPartial, no_privilege_to_grant}
 use Rattle.grant_edit.specs.Named.{named_grantees, named_privileges}
-use Rattle.grant_edit.specs.Revokes.{IsIdentified}
-use Rattle.grant_edit.specs.Targets.{unknown_names}
+use Rattle.grant_edit.specs.Revokes.{IsIdentifiedRight}
+use Rattle.grant_edit.specs.Targets.{unknown_names_of_rights}
 
 -- the object that a target names, in the session's schema where it names none
 abbrev pub target_object : Who → Target → Object
@@ -31,17 +31,17 @@ abbrev pub privileges_named : Who → Privileges → Target → List Need
 privileges_named who privileges target = named_privileges target.kind (target_object who target) privileges
 
 -- nothing can be granted by the statement's grantor
-abbrev pub no_grant : List Item → Who → GrantPrivileges → Refusal → Type 0
-no_grant c who parts refusal = (grantor : NameBytes) × IsGrantor c who parts.grantor grantor × grants_nothing c grantor (privileges_named who parts.privileges parts.target) refusal
+abbrev pub no_privilege_granted : List Item → Who → GrantPrivileges → Refusal → Type 0
+no_privilege_granted c who parts refusal = (grantor : NameBytes) × IsGrantor c who parts.grantor grantor × no_privilege_to_grant c grantor (privileges_named who parts.privileges parts.target) refusal
 
 -- GRANT: names in reading order, CURRENT_ROLE behind them, then what can be granted
 abbrev pub granting_refusals : List Item → Who → GrantPrivileges → List (Refusal → Type 0)
-granting_refusals c who parts = unknown_names c (target_object who parts.target) parts.privileges parts.target.kind parts.grantees
-    ++ no_current_role c who parts.grantor ∷ no_grant c who parts ∷ []
+granting_refusals c who parts = unknown_names_of_rights c (target_object who parts.target) parts.privileges parts.target.kind parts.grantees
+    ++ no_current_role c who parts.grantor ∷ no_privilege_granted c who parts ∷ []
 
 -- by this grantor each grantee is granted what is named on the object and can be granted
 abbrev pub GrantsEditBy : List Item → NameBytes → Object → GrantPrivileges → Edit → Type 0
-GrantsEditBy c grantor object parts edit = IsAdding (IsGrant (IsGranted c grantor object (named_privileges parts.target.kind object parts.privileges)) grantor (named_grantees parts.grantees) parts.grant_option) edit
+GrantsEditBy c grantor object parts edit = IsAdding (IsGrant (IsToBeGranted c grantor object (named_privileges parts.target.kind object parts.privileges)) grantor (named_grantees parts.grantees) parts.grant_option) edit
 
 -- the same, and the warning is due where that isn't all
 pub record GrantsBy (c : List Item) (grantor : NameBytes) (object : Object) (parts : GrantPrivileges) (granting : Granting) : Type 0 where
@@ -58,12 +58,12 @@ GrantsEdit c who parts edit = (grantor : NameBytes) × IsGrantor c who parts.gra
 
 -- REVOKE: names in reading order, CURRENT_ROLE behind them, and nothing else
 abbrev pub revoking_refusals : List Item → Who → RevokePrivileges → List (Refusal → Type 0)
-revoking_refusals c who parts = unknown_names c (target_object who parts.target) parts.privileges parts.target.kind parts.grantees
+revoking_refusals c who parts = unknown_names_of_rights c (target_object who parts.target) parts.privileges parts.target.kind parts.grantees
     ++ no_current_role c who parts.grantor ∷ []
 
 -- what this grantor granted to the grantees of what is named on the object is destroyed
 abbrev pub RevokesBy : List Item → NameBytes → Object → RevokePrivileges → Edit → Type 0
-RevokesBy c grantor object parts edit = IsTaking c (IsIdentified object (named_privileges parts.target.kind object parts.privileges) grantor (named_grantees parts.grantees) parts.option_alone) edit
+RevokesBy c grantor object parts edit = IsTaking c (IsIdentifiedRight object (named_privileges parts.target.kind object parts.privileges) grantor (named_grantees parts.grantees) parts.option_alone) edit
 
 -- the same by the statement's grantor
 abbrev pub Revokes : List Item → Who → RevokePrivileges → Edit → Type 0

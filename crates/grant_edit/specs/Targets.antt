@@ -39,8 +39,8 @@ IsTarget kinds.Procedure object x = IsRoutineOfKind kinds.Procedure object x
 IsTarget kinds.Routine object x = IsRoutineOfKind kinds.Routine object x
 
 -- no object of this kind has the name
-abbrev pub unknown_target : List Item → TargetKind → Object → Refusal → Type 0
-unknown_target c kind object refusal = (¬ (Has c (IsTarget kind object))) × (refusal ≡ UnknownName (path_of object))
+abbrev pub unknown_target_object : List Item → TargetKind → Object → Refusal → Type 0
+unknown_target_object c kind object refusal = (¬ (Has c (IsTarget kind object))) × (refusal ≡ UnknownName (path_of object))
 
 -- PUBLIC stands by itself; of another grantee no user and no role has the name
 abbrev pub unknown_grantee : List Item → Grantee → Refusal → Type 0
@@ -48,10 +48,10 @@ unknown_grantee c grantee.Public refusal = ⊥
 unknown_grantee c (grantee.Named name) refusal = unknown_authorization c name refusal
 
 -- the columns of the lists, in reading order
-abbrev pub unknown_columns : List Item → Object → Privileges → List (Refusal → Type 0)
-unknown_columns c object All = []
-unknown_columns c object (Listed all) = tests_of (λ (p : Privilege). map (unknown_column c object) p.columns) all
+abbrev pub unknown_listed_columns : List Item → Object → Privileges → List (Refusal → Type 0)
+unknown_listed_columns c object All = []
+unknown_listed_columns c object (Listed all) = tests_of (λ (p : Privilege). map (unknown_column c object) p.columns) all
 
 -- the names of the statement in reading order: columns, target, grantees
-abbrev pub unknown_names : List Item → Object → Privileges → TargetKind → List Grantee → List (Refusal → Type 0)
-unknown_names c object privileges kind grantees = unknown_columns c object privileges ++ unknown_target c kind object ∷ map (unknown_grantee c) grantees
+abbrev pub unknown_names_of_rights : List Item → Object → Privileges → TargetKind → List Grantee → List (Refusal → Type 0)
+unknown_names_of_rights c object privileges kind grantees = unknown_listed_columns c object privileges ++ unknown_target_object c kind object ∷ map (unknown_grantee c) grantees

@@ -103,7 +103,7 @@ fn push_granted(
     requires room { IsRoomFor walk.old c.now.items }
     requires on { need.now.on ≡ path_of object.now }
     requires can { spec.CanGrant c.now.items grantor.now need.now }
-    ensures members { OnOk result ((other : Need) → Contains needs.new.items other ↔ (Contains needs.old.items other ⊎ spec.IsGranted c.now.items grantor.now object.now (need.now ∷ []) other)) }
+    ensures members { OnOk result ((other : Need) → Contains needs.new.items other ↔ (Contains needs.old.items other ⊎ spec.IsToBeGranted c.now.items grantor.now object.now (need.now ∷ []) other)) }
     ensures room { walk.new ≡ walk.old }
 {
     needs.push(need.copy()?)?;
@@ -122,7 +122,7 @@ pub fn find_granted(
     named: &Vec<Need>,
 ) -> Result<Granted, AllocError>
     requires { (need : Need) → Contains named.now.items need → need.on ≡ path_of object.now }
-    ensures members { IfOk result (λ g. (need : Need) → Contains g.needs.items need ↔ spec.IsGranted c.now.items grantor.now object.now named.now.items need) }
+    ensures members { IfOk result (λ g. (need : Need) → Contains g.needs.items need ↔ spec.IsToBeGranted c.now.items grantor.now object.now named.now.items need) }
     ensures all { IfOk result (λ g. spec.AllGranted c.now.items grantor.now named.now.items g.all) }
 {
     let mut walk = Walk::new(alloc, c)?;

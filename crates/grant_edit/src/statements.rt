@@ -7,7 +7,7 @@ ghost use Rattle.cat_items.specs.Good.{IsGood};
 ghost use Rattle.cat_items.specs.Rights.{path_of};
 ghost use Rattle.edit_rules.specs.First.{IsTested};
 ghost use Rattle.edit_laws.specs.Sound.{IsSound};
-ghost use Rattle.grant_edit.specs.Grants.{IsGrantedBy, grants_nothing};
+ghost use Rattle.grant_edit.specs.Grants.{IsGrantedBy, no_privilege_to_grant};
 ghost use Rattle.grant_edit.specs.Named as names;
 ghost use Rattle.grant_edit.specs.Statements as spec;
 
@@ -43,7 +43,7 @@ fn granted_of(
     named: &Vec<Need>,
 ) -> Result<Granted, EditError>
     requires { (need : Need) → Contains named.now.items need → need.on ≡ path_of object.now }
-    ensures { IsTested (grants_nothing c.now.items grantor.now named.now.items ∷ []) (IsGrantedBy c.now.items grantor.now object.now named.now.items) result }
+    ensures { IsTested (no_privilege_to_grant c.now.items grantor.now named.now.items ∷ []) (IsGrantedBy c.now.items grantor.now object.now named.now.items) result }
 {
     let granted = find_granted(alloc, c, grantor, object, named)?;
     match refused(named, &granted.needs) {
@@ -57,7 +57,7 @@ fn granted_of(
 
 /// Whether less is granted than is listed.
 fn is_partial(all: bool, privileges: &Privileges) -> bool
-    ensures { result ≡ names.is_partial all privileges.now }
+    ensures { result ≡ names.grants_less_than_listed all privileges.now }
 {
     match privileges {
         Privileges::All => false,
@@ -73,7 +73,7 @@ fn grant_by(
     object: &Object,
     parts: &GrantPrivileges,
 ) -> Result<Granting, EditError>
-    ensures tested { IsTested (grants_nothing c.now.items grantor.now (names.named_privileges parts.now.target.kind object.now parts.now.privileges) ∷ []) (spec.GrantsBy c.now.items grantor.now object.now parts.now) result }
+    ensures tested { IsTested (no_privilege_to_grant c.now.items grantor.now (names.named_privileges parts.now.target.kind object.now parts.now.privileges) ∷ []) (spec.GrantsBy c.now.items grantor.now object.now parts.now) result }
     ensures sound { IsGood c.now.items → IfOk result (λ granting. IsSound c.now.items granting.edit) }
 {
     let named = named_privileges(alloc, parts.target.kind, object, &parts.privileges)?;

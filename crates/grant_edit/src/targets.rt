@@ -79,7 +79,7 @@ fn has_target(c: &Catalogue, kind: TargetKind, object: &Object) -> bool
 
 /// Refuses a target that doesn't stand.
 fn test_target(c: &Catalogue, kind: TargetKind, object: &Object) -> Result<(), EditError>
-    ensures { HasPassed (spec.unknown_target c.now.items kind object.now ∷ []) result }
+    ensures { HasPassed (spec.unknown_target_object c.now.items kind object.now ∷ []) result }
 {
     if has_target(c, kind, object) {
         return Ok(());
@@ -110,7 +110,7 @@ fn test_lists(c: &Catalogue, object: &Object, listed: &Items<Privilege>) -> Resu
 
 /// Refuses the first column that is named and doesn't stand.
 fn test_columns(c: &Catalogue, object: &Object, privileges: &Privileges) -> Result<(), EditError>
-    ensures { HasPassed (spec.unknown_columns c.now.items object.now privileges.now) result }
+    ensures { HasPassed (spec.unknown_listed_columns c.now.items object.now privileges.now) result }
 {
     match privileges {
         Privileges::All => Ok(()),
@@ -146,7 +146,7 @@ pub fn test_names(
     kind: TargetKind,
     grantees: &Items<Grantee>,
 ) -> Result<(), EditError>
-    ensures { HasPassed (spec.unknown_names c.now.items object.now privileges.now kind grantees.now) result }
+    ensures { HasPassed (spec.unknown_names_of_rights c.now.items object.now privileges.now kind grantees.now) result }
 {
     test_columns(c, object, privileges)?;
     test_target(c, kind, object)?;

@@ -16,7 +16,7 @@ use Rattle.cat_items.specs.Reach.{Has, GrantsRole, Leads}
 use Rattle.cat_items.specs.Shape.{NameSet, name_of, HasAllowedName, HasDerivedFields, HasProperLists, IsWellFormed, IsColumnOf}
 use Rattle.role_graph.specs.Cycles.{HasCycle, IsStep, StepsLead}
 use Rattle.edit_laws.specs.Sound.{IsSound}
-use Rattle.edit_rules.specs.Chosen.{AreAll, IsAdding, IsGranted}
+use Rattle.edit_rules.specs.Chosen.{AreAll, IsAdding, IsRightOrRoleGrant}
 use Rattle.edit_rules.proofs.ItemKeys.{only_granted}
 use Rattle.edit_laws.specs.Additions.{AddsProperly, IsEitherAdded}
 use Rattle.edit_laws.specs.Kinds.{adding, IsKept}
@@ -37,7 +37,7 @@ granted_role grantor roles grantees option (item.RoleAuth g) is = tt
 granted_role grantor roles grantees option (item.RoleAdmin g) is = tt
 granted_role grantor roles grantees option _ is = is
 
-pub grant_is_granted : (x : Item) → IsRoleGrant x → IsGranted x
+pub grant_is_granted : (x : Item) → IsRoleGrant x → IsRightOrRoleGrant x
 grant_is_granted (item.RoleAuth g) is = tt
 grant_is_granted (item.RoleAdmin g) is = tt
 grant_is_granted _ is = absurd is

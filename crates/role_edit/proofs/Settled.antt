@@ -10,21 +10,21 @@ use Rattle.cat_items.specs.declared.item.Item.{Item}
 use Rattle.cat_items.specs.Rights.{admin}
 use Rattle.edit_rules.specs.Grantors.{no_current_role}
 use Rattle.edit_rules.specs.Names.{unknown_authorization, unknown_role}
-use Rattle.edit_rules.specs.Privileges.{lacks_privilege}
+use Rattle.edit_rules.specs.Privileges.{no_privilege}
 use Rattle.edit_rules.proofs.FirstLaws.{IsSettled, AreSettled, settled_append, settled_map}
 use Rattle.edit_rules.proofs.Settled.{grantor_settled, lacks_settled}
 use Rattle.edit_rules.specs.Chosen.{IsAdding, IsTaking}
 use Rattle.edit_rules.proofs.SettledEdits.{adding_settled, taking_settled}
 use Rattle.role_edit.specs.CreatedRoles.{create_role_refusals, creating_role, IsRoleCreation}
-use Rattle.role_edit.specs.GrantedRoles.{name_refusals, grant_roles_refusals, lacks_admin_option, IsGrantedRole, IsRoleGrantEdit}
-use Rattle.role_edit.specs.RevokedRoles.{revoke_roles_refusals, IsIdentified, IsRoleRevokeEdit}
+use Rattle.role_edit.specs.GrantedRoles.{role_name_refusals, grant_roles_refusals, no_admin_option, IsGrantedRole, IsRoleGrantEdit}
+use Rattle.role_edit.specs.RevokedRoles.{revoke_roles_refusals, IsIdentifiedRoleGrant, IsRoleRevokeEdit}
 
-lacks_option_settled : (c : List Item) (who : Who) (by : Option Grantor) (roles : List (List ℕ)) → IsSettled (lacks_admin_option c who by roles)
+lacks_option_settled : (c : List Item) (who : Who) (by : Option Grantor) (roles : List (List ℕ)) → IsSettled (no_admin_option c who by roles)
 lacks_option_settled c who by roles a b p q =
     let same : p.0 ≡ q.0 = grantor_settled c who by p.0 q.0 p.1 q.1 in
-    lacks_settled c q.0 (map admin roles) a b (subst (λ n. lacks_privilege c n (map admin roles) a) same p.2) q.2
+    lacks_settled c q.0 (map admin roles) a b (subst (λ n. no_privilege c n (map admin roles) a) same p.2) q.2
 
-names_settled : (c : List Item) (who : Who) (roles grantees : List (List ℕ)) (by : Option Grantor) → AreSettled (name_refusals c who roles grantees by)
+names_settled : (c : List Item) (who : Who) (roles grantees : List (List ℕ)) (by : Option Grantor) → AreSettled (role_name_refusals c who roles grantees by)
 names_settled c who roles grantees by =
     settled_append (map (unknown_role c) roles) _ (settled_map (unknown_role c) (λ n a b p q. p.1 ∙ sym q.1) roles)
     (settled_append (map (unknown_authorization c) grantees) _ (settled_map (unknown_authorization c) (λ n a b p q. p.1 ∙ sym q.1) grantees) ((λ a b p q. p.1 ∙ sym q.1), tt))
@@ -34,7 +34,7 @@ creation_refusals_settled c who parts = ((λ a b p q. p.1 ∙ sym q.1), ((λ a b
 
 pub grant_refusals_settled : (c : List Item) (who : Who) (parts : GrantRoles) → AreSettled (grant_roles_refusals c who parts)
 grant_refusals_settled c who parts =
-    settled_append (name_refusals c who parts.roles parts.grantees parts.grantor) _ (names_settled c who parts.roles parts.grantees parts.grantor)
+    settled_append (role_name_refusals c who parts.roles parts.grantees parts.grantor) _ (names_settled c who parts.roles parts.grantees parts.grantor)
     ((λ a b p q. p.1 ∙ sym q.1), (lacks_option_settled c who parts.grantor parts.roles, tt))
 
 pub revoke_refusals_settled : (c : List Item) (who : Who) (parts : RevokeRoles) → AreSettled (revoke_roles_refusals c who parts)
@@ -52,4 +52,4 @@ grant_settled c who parts a b p q =
 pub revoke_settled : (c : List Item) (who : Who) (parts : RevokeRoles) (a b : Edit) → IsRoleRevokeEdit c who parts a → IsRoleRevokeEdit c who parts b → a ≡ b
 revoke_settled c who parts a b p q =
     let same : p.0 ≡ q.0 = grantor_settled c who parts.grantor p.0 q.0 p.1 q.1 in
-    taking_settled c (IsIdentified q.0 parts) a b (subst (λ n. IsTaking c (IsIdentified n parts) a) same p.2) q.2
+    taking_settled c (IsIdentifiedRoleGrant q.0 parts) a b (subst (λ n. IsTaking c (IsIdentifiedRoleGrant n parts) a) same p.2) q.2

@@ -17,25 +17,25 @@ use Rattle.role_graph.specs.Cycles.{HasCycle, IsStep}
 use Rattle.edit_rules.specs.Chosen.{IsAdding}
 use Rattle.edit_rules.specs.Grantors.{IsGrantor, no_current_role}
 use Rattle.edit_rules.specs.Names.{unknown_authorization, unknown_role}
-use Rattle.edit_rules.specs.Privileges.{lacks_privilege}
+use Rattle.edit_rules.specs.Privileges.{no_privilege}
 
 -- names that don't stand, in the order in which they are written
-abbrev pub name_refusals : List Item → Who → List NameBytes → List NameBytes → Option Grantor → List (Refusal → Type 0)
-name_refusals c who roles grantees by = map (unknown_role c) roles ++ (map (unknown_authorization c) grantees ++ no_current_role c who by ∷ [])
+abbrev pub role_name_refusals : List Item → Who → List NameBytes → List NameBytes → Option Grantor → List (Refusal → Type 0)
+role_name_refusals c who roles grantees by = map (unknown_role c) roles ++ (map (unknown_authorization c) grantees ++ no_current_role c who by ∷ [])
 
 -- the role grants of the catalogue and of the statement have a cycle together
 abbrev pub role_cycle : List Item → List NameBytes → List NameBytes → Refusal → Type 0
 role_cycle c roles grantees refusal = HasCycle (IsStep c roles grantees) × (refusal ≡ RoleCycle)
 
 -- the grantor has no admin option of one of the roles
-abbrev pub lacks_admin_option : List Item → Who → Option Grantor → List NameBytes → Refusal → Type 0
-lacks_admin_option c who by roles refusal = (grantor : NameBytes) × IsGrantor c who by grantor × lacks_privilege c grantor (map admin roles) refusal
+abbrev pub no_admin_option : List Item → Who → Option Grantor → List NameBytes → Refusal → Type 0
+no_admin_option c who by roles refusal = (grantor : NameBytes) × IsGrantor c who by grantor × no_privilege c grantor (map admin roles) refusal
 
 abbrev pub grant_roles_refusals : List Item → Who → GrantRoles → List (Refusal → Type 0)
 grant_roles_refusals c who parts =
-    name_refusals c who parts.roles parts.grantees parts.grantor
+    role_name_refusals c who parts.roles parts.grantees parts.grantor
     ++ role_cycle c parts.roles parts.grantees
-    ∷ lacks_admin_option c who parts.grantor parts.roles
+    ∷ no_admin_option c who parts.grantor parts.roles
     ∷ []
 
 -- by this grantor, of one of these roles to one of these grantees

@@ -9,17 +9,17 @@ use Rattle.cat_items.specs.declared.item.Item.{Item}
 use Rattle.cat_items.specs.declared.item.Item.TheVariants.{RoleAuth, RoleAdmin}
 use Rattle.edit_rules.specs.Chosen.{IsTaking}
 use Rattle.edit_rules.specs.Grantors.{IsGrantor}
-use Rattle.role_edit.specs.GrantedRoles.{name_refusals, IsGrantBy}
+use Rattle.role_edit.specs.GrantedRoles.{role_name_refusals, IsGrantBy}
 
 abbrev pub revoke_roles_refusals : List Item → Who → RevokeRoles → List (Refusal → Type 0)
-revoke_roles_refusals c who parts = name_refusals c who parts.roles parts.grantees parts.grantor
+revoke_roles_refusals c who parts = role_name_refusals c who parts.roles parts.grantees parts.grantor
 
 -- what the statement identifies: the role authorizations with their admin options, or these alone
-abbrev pub IsIdentified : NameBytes → RevokeRoles → Item → Type 0
-IsIdentified grantor parts (RoleAuth g) = (parts.option_alone ≡ false) × IsGrantBy grantor parts.roles parts.grantees g
-IsIdentified grantor parts (RoleAdmin g) = IsGrantBy grantor parts.roles parts.grantees g
-IsIdentified grantor parts x = ⊥
+abbrev pub IsIdentifiedRoleGrant : NameBytes → RevokeRoles → Item → Type 0
+IsIdentifiedRoleGrant grantor parts (RoleAuth g) = (parts.option_alone ≡ false) × IsGrantBy grantor parts.roles parts.grantees g
+IsIdentifiedRoleGrant grantor parts (RoleAdmin g) = IsGrantBy grantor parts.roles parts.grantees g
+IsIdentifiedRoleGrant grantor parts x = ⊥
 
 -- what is identified is taken
 abbrev pub IsRoleRevokeEdit : List Item → Who → RevokeRoles → Edit → Type 0
-IsRoleRevokeEdit c who parts edit = (grantor : NameBytes) × IsGrantor c who parts.grantor grantor × IsTaking c (IsIdentified grantor parts) edit
+IsRoleRevokeEdit c who parts edit = (grantor : NameBytes) × IsGrantor c who parts.grantor grantor × IsTaking c (IsIdentifiedRoleGrant grantor parts) edit

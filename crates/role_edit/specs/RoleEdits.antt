@@ -18,11 +18,11 @@ IsOnRoles (RevokeRoles parts) = Unit {0}
 IsOnRoles statement = ⊥
 
 -- the refusals by the tree, names, taken names, cycles and admin options, in their order
-abbrev pub role_refusals : List Item → Who → Statement → List (Refusal → Type 0)
-role_refusals c who (CreateRole parts) = create_role_refusals c who parts
-role_refusals c who (GrantRoles parts) = grant_roles_refusals c who parts
-role_refusals c who (RevokeRoles parts) = revoke_roles_refusals c who parts
-role_refusals c who statement = []
+abbrev pub role_statement_refusals : List Item → Who → Statement → List (Refusal → Type 0)
+role_statement_refusals c who (CreateRole parts) = create_role_refusals c who parts
+role_statement_refusals c who (GrantRoles parts) = grant_roles_refusals c who parts
+role_statement_refusals c who (RevokeRoles parts) = revoke_roles_refusals c who parts
+role_statement_refusals c who statement = []
 
 -- the edit that the statement makes
 abbrev pub IsRoleEdit : List Item → Who → Statement → Edit → Type 0

@@ -4,7 +4,7 @@ ghost use Rattle.std.specs.Prelude.{◌≡◌, ◌⊎◌, ◌∷◌, ◌++◌, [
 ghost use Rattle.edit_rules.specs.First.{HasPassed, IsTested};
 ghost use Rattle.edit_rules.specs.Grantors.{IsGrantor};
 ghost use Rattle.edit_rules.specs.Names.{unknown_authorization, unknown_role};
-ghost use Rattle.role_edit.specs.GrantedRoles.{name_refusals};
+ghost use Rattle.role_edit.specs.GrantedRoles.{role_name_refusals};
 
 use cat_items::{Catalogue, EditError, Who};
 use edit_rules::{grantor_of, test_authorization, test_role};
@@ -40,7 +40,7 @@ pub fn grantor_of_roles(
     grantees: &Items<Name>,
     by: Option<Grantor>,
 ) -> Result<Name, EditError>
-    ensures { IsTested (name_refusals c.now.items who.now roles.now grantees.now by) (IsGrantor c.now.items who.now by) result }
+    ensures { IsTested (role_name_refusals c.now.items who.now roles.now grantees.now by) (IsGrantor c.now.items who.now by) result }
 {
     test_roles(c, roles)?;
     test_grantees(c, grantees)?;

@@ -54,9 +54,9 @@ impl<'a> Identified<'a> {
 }
 
 impl<'a> Chooses for Identified<'a> {
-    ghost use Rattle.role_edit.specs.RevokedRoles.{IsIdentified};
+    ghost use Rattle.role_edit.specs.RevokedRoles.{IsIdentifiedRoleGrant};
 
-    ghost fits = { λ t x. IsIdentified t.grantor.now t.parts.now x };
+    ghost fits = { λ t x. IsIdentifiedRoleGrant t.grantor.now t.parts.now x };
 
     fn chooses(&self, x: &Item) -> bool {
         match x {

@@ -4,7 +4,7 @@ ghost use Rattle.std.specs.Prelude.{IfOk};
 ghost use Rattle.cat_items.specs.Good.{IsGood};
 ghost use Rattle.edit_rules.specs.First.{IsTested};
 ghost use Rattle.edit_laws.specs.Sound.{IsSound};
-ghost use Rattle.role_edit.specs.RoleEdits.{IsOnRoles, IsRoleEdit, role_refusals};
+ghost use Rattle.role_edit.specs.RoleEdits.{IsOnRoles, IsRoleEdit, role_statement_refusals};
 
 use crate::creations::create_role;
 use crate::grants::grant_roles;
@@ -24,7 +24,7 @@ pub fn edit_role(
 ) -> Result<Edit, EditError>
     requires good { IsGood c.now.items }
     requires on_roles { IsOnRoles statement.now }
-    ensures tested { IsTested (role_refusals c.now.items who.now statement.now) (IsRoleEdit c.now.items who.now statement.now) result }
+    ensures tested { IsTested (role_statement_refusals c.now.items who.now statement.now) (IsRoleEdit c.now.items who.now statement.now) result }
     ensures sound { IfOk result (IsSound c.now.items) }
 {
     match statement {

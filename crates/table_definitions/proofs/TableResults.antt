@@ -23,14 +23,14 @@ use Rattle.edit_laws.specs.Sound.{IsSound}
 use Rattle.edit_rules.proofs.FirstLaws.{exit_of_first, exit_of_others, passes_both, passes_first, passes_one, passes_rest}
 use Rattle.table_parts.specs.declared.parts.Part.{Part}
 use Rattle.table_parts.specs.Forms.{IsProperPart}
-use Rattle.table_parts.specs.Marks.{Differ, marks_in}
+use Rattle.table_parts.specs.Marks.{MarksDiffer, marks_in}
 use Rattle.table_parts.specs.Parts.{columns_of}
 use Rattle.table_names.specs.declared.named.NamedConstraint.{NamedConstraint}
 use Rattle.table_names.specs.Named.{HaveOwnNames}
-use Rattle.table_names.specs.Refusals.{name_refusals}
+use Rattle.table_names.specs.Refusals.{table_name_refusals}
 use Rattle.table_keys.specs.ForeignKeys.{AreForeignOf, IsForeignOf, no_such_key}
 use Rattle.table_keys.specs.Keys.{own_keys}
-use Rattle.table_rules.specs.References.{lacks_reference}
+use Rattle.table_rules.specs.References.{no_references_privilege}
 use Rattle.table_rules.specs.Rules.{AreConstraints, for_constraints, rule_refusals, rules_by_keys, table_refusals, too_many_places}
 use Rattle.table_rules.specs.Types.{type_mismatch}
 use Rattle.table_definitions.specs.Lists.{ForeignKeysHaveOwnNames, IsPartOf}
@@ -51,13 +51,13 @@ module _ (c : List Item) (who : Who) (made : Object) (all : List Part) where
   rules = for_constraints c made all (λ named. First (rule_refusals c who made all named))
 
   -- a refusal by the names
-  pub refused_by_names : (e : EditError) (exit : Result Edit EditError) → IsErrAnd exit (λ error. error ≡ e) → HasPassed {T = Unit {0}} (name_refusals c who made all) (Err e)
+  pub refused_by_names : (e : EditError) (exit : Result Edit EditError) → IsErrAnd exit (λ error. error ≡ e) → HasPassed {T = Unit {0}} (table_name_refusals c who made all) (Err e)
       → IsTested (table_refusals c who made all) (MakesTable c who made all) exit
   refused_by_names e exit is h =
       let done : Unit {0} → Type 0 = λ v. Unit {0} in
-      exit_of_first (name_refusals c who made all) (rules ∷ []) done (MakesTable c who made all) e exit is h
+      exit_of_first (table_name_refusals c who made all) (rules ∷ []) done (MakesTable c who made all) e exit is h
 
-  module _ (named : List NamedConstraint) (own : List Key) (are : AreConstraints c made all named) (own_is : own ≡ own_keys made named) (passed : Passes (First (name_refusals c who made all))) where
+  module _ (named : List NamedConstraint) (own : List Key) (are : AreConstraints c made all named) (own_is : own ≡ own_keys made named) (passed : Passes (First (table_name_refusals c who made all))) where
     refused_rules : (Done : List Foreign → Type 0) (e : EditError) → IsTested (rules_by_keys c own who made all named) Done (Err e) → IsTested (rules ∷ []) Done (Err e)
     refused_rules Done (Refused refusal) h = (inl (named, are, subst (λ (keys : List Key). First (rules_by_keys c keys who made all named) refusal) own_is h.0), tt)
     refused_rules Done Memory h = tt
@@ -65,16 +65,16 @@ module _ (c : List Item) (who : Who) (made : Object) (all : List Part) where
     -- a refusal by the rules
     pub refused_by_rules : (Done : List Foreign → Type 0) (e : EditError) (exit : Result Edit EditError) → IsErrAnd exit (λ error. error ≡ e) → IsTested (rules_by_keys c own who made all named) Done (Err e)
         → IsTested (table_refusals c who made all) (MakesTable c who made all) exit
-    refused_by_rules Done e exit is h = exit_of_others (name_refusals c who made all) (rules ∷ []) Done (MakesTable c who made all) e exit is passed (refused_rules Done e h)
+    refused_by_rules Done e exit is h = exit_of_others (table_name_refusals c who made all) (rules ∷ []) Done (MakesTable c who made all) e exit is passed (refused_rules Done e h)
 
     module _ (rules_passed : Passes (First (rules_by_keys c own who made all named))) where
       -- there are places for the columns
       pub few_columns : length (columns_of all) ≤ 4294967295
       few_columns =
           elim (cases_lt 4294967295 (length (columns_of all))) [
-            | inl more ↦ absurd (passes_first (too_many_places all) (lacks_reference c own who made named ∷ [])
-                (passes_rest (no_such_key c own who named) (too_many_places all ∷ lacks_reference c own who made named ∷ [])
-                (passes_rest (type_mismatch c own who made all named) (no_such_key c own who named ∷ too_many_places all ∷ lacks_reference c own who made named ∷ []) rules_passed))
+            | inl more ↦ absurd (passes_first (too_many_places all) (no_references_privilege c own who made named ∷ [])
+                (passes_rest (no_such_key c own who named) (too_many_places all ∷ no_references_privilege c own who made named ∷ [])
+                (passes_rest (type_mismatch c own who made all named) (no_such_key c own who named ∷ too_many_places all ∷ no_references_privilege c own who made named ∷ []) rules_passed))
                 (CatalogFull 4294967295) (more, refl))
             | inr few ↦ few
           ]
@@ -112,8 +112,8 @@ module _ (c : List Item) (who : Who) (made : Object) (all : List Part) where
 
         -- all tests pass, and what is made is added
         pub table_made : Passes (First (table_refusals c who made all)) × MakesTable c who made all edit
-        table_made = (passes_both (name_refusals c who made all) (rules ∷ []) passed (passes_one rules rules_pass), (named, are, is_adding))
+        table_made = (passes_both (table_name_refusals c who made all) (rules ∷ []) passed (passes_one rules rules_pass), (named, are, is_adding))
 
         -- soundly
-        pub table_sound : IsGood c → Differ (marks_in all) → ((part : Part) → Contains all part → IsProperPart part) → IsSound c edit
+        pub table_sound : IsGood c → MarksDiffer (marks_in all) → ((part : Part) → Contains all part → IsProperPart part) → IsSound c edit
         table_sound good differ forms = sound_table c who made all named edit good (tested_table c who made all named passed differ are forms) is_adding

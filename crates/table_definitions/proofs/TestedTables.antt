@@ -23,13 +23,13 @@ use Rattle.edit_rules.proofs.NameLemmas.{base_table_there}
 use Rattle.table_parts.specs.declared.parts.Part.{Part}
 use Rattle.table_parts.specs.declared.parts.Part.TheVariants as parts
 use Rattle.table_parts.specs.Forms.{IsProperPart}
-use Rattle.table_parts.specs.Marks.{Differ, marks_in}
+use Rattle.table_parts.specs.Marks.{MarksDiffer, marks_in}
 use Rattle.table_parts.specs.Parts.{column_of, columns_of, constraint_of, constraints_of}
 use Rattle.table_parts.proofs.Differing.{AreNotBothPrimary, IsPrimary, column_names, one_primary, own_columns, target_columns}
 use Rattle.table_names.specs.declared.named.NamedConstraint.{NamedConstraint}
-use Rattle.table_names.specs.Given.{given_name, given_names, unknown_names}
+use Rattle.table_names.specs.Given.{given_name, given_names, unknown_names_of_parts}
 use Rattle.table_names.specs.Named.{AreNamed, IsFree, IsNameFor}
-use Rattle.table_names.specs.Refusals.{exists_in, name_refusals, repeated, taken_names}
+use Rattle.table_names.specs.Refusals.{exists_in, table_name_refusals, repeated_name, taken_names}
 use Rattle.table_keys.specs.Keys.{beside}
 use Rattle.table_keys.proofs.OwnKeys.{own_names}
 use Rattle.table_rules.specs.Rules.{AreConstraints}
@@ -51,11 +51,11 @@ passes_map {X} test (y ∷ xs) all x h =
       | inr later ↦ passes_map test xs (passes_rest (test y) (map test xs) all) x later
     ]
 
-module _ (c : List Item) (who : Who) (made : Object) (all : List Part) (passed : Passes (First (name_refusals c who made all))) where
+module _ (c : List Item) (who : Who) (made : Object) (all : List Part) (passed : Passes (First (table_name_refusals c who made all))) where
   taken : Passes (First (taken_names c made all))
   taken =
       passes_rest (not_owner c who made.schema) (taken_names c made all)
-      (passes_right (repeated made all ∷ unknown_names c who made all) (not_owner c who made.schema ∷ taken_names c made all) passed)
+      (passes_right (repeated_name made all ∷ unknown_names_of_parts c who made all) (not_owner c who made.schema ∷ taken_names c made all) passed)
 
   -- no table or view has the name
   no_table : ¬ (Has c (IsTable (path_of made)))
@@ -147,11 +147,11 @@ FreeNames c made all = IsFree c made.schema (given_names all)
 none_differ : AreOthers {X = List ℕ} []
 none_differ i j d low high = absurd (omega (arith, high))
 
-targets_differ : (all : List Part) (k : TableConstraint) → Differ (marks_in all) → Contains (constraints_of all) k → (kind : TableConstraintKind) → k.kind ≡ kind → AreOthers (target_list kind)
+targets_differ : (all : List Part) (k : TableConstraint) → MarksDiffer (marks_in all) → Contains (constraints_of all) k → (kind : TableConstraintKind) → k.kind ≡ kind → AreOthers (target_list kind)
 targets_differ all k differ h (kinds.ForeignKey columns references) e = target_columns all k columns references differ h e
 targets_differ all k differ h kind e = none_differ
 
-pub tested_table : (c : List Item) (who : Who) (made : Object) (all : List Part) (named : List NamedConstraint) → Passes (First (name_refusals c who made all)) → Differ (marks_in all) → AreConstraints c made all named
+pub tested_table : (c : List Item) (who : Who) (made : Object) (all : List Part) (named : List NamedConstraint) → Passes (First (table_name_refusals c who made all)) → MarksDiffer (marks_in all) → AreConstraints c made all named
     → ((part : Part) → Contains all part → IsProperPart part) → IsTestedTable c made all named
 tested_table c who made all named passed differ are forms = record {
   new_table = no_table c who made all passed;

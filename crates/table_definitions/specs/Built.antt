@@ -24,13 +24,13 @@ abbrev pub IsBuiltOption : ColumnOption → Type 0
 IsBuiltOption (options.Constraint name constraint) = IsBuiltConstraint constraint
 IsBuiltOption option = Unit {0}
 
-abbrev pub IsBuiltKind : TableConstraintKind → Type 0
-IsBuiltKind (kinds.Check condition) = ⊥
-IsBuiltKind kind = Unit {0}
+abbrev pub IsBuiltConstraint : TableConstraintKind → Type 0
+IsBuiltConstraint (kinds.Check condition) = ⊥
+IsBuiltConstraint kind = Unit {0}
 
 abbrev pub IsBuiltElement : TableElement → Type 0
 IsBuiltElement (elements.Column d) = IsDataType d.sort × ((option : ColumnOption) → Contains d.options option → IsBuiltOption option)
-IsBuiltElement (elements.Constraint k) = IsBuiltKind k.kind
+IsBuiltElement (elements.Constraint k) = IsBuiltConstraint k.kind
 
 abbrev pub IsBuiltTable : List TableElement → Type 0
 IsBuiltTable all = (element : TableElement) → Contains all element → IsBuiltElement element

@@ -20,7 +20,7 @@ use Rattle.cat_items.specs.declared.ranges.ObjectKind.TheVariants as object
 use Rattle.cat_items.specs.Catalogues.{IsInOrder}
 use Rattle.cat_items.specs.Order.{item_cmp, name_cmp, object_cmp}
 use Rattle.cat_items.specs.Ranges.{IsObjectIn, IsRange}
-use Rattle.table_keys.specs.FirstKeys.{Fits, IsBefore, IsFirst, IsFitting, IsLeastIfAny, MayBeAmong, MayBeOf}
+use Rattle.table_keys.specs.FirstKeys.{HasKeyColumns, IsBefore, IsFirst, IsFitting, IsLeastIfAny, MayBeAmong, MayBeOf}
 use Rattle.table_keys.specs.Keys.{FitsColumns}
 
 -- ---- the columns of a key
@@ -66,7 +66,7 @@ key_there c at x k within here is d = get_or_default c at d x within ∙ sym her
 
 -- the first place of an item that fits
 pub first_at : (c : List Item) (from to at : ℕ) (table : Object) (columns : List (List ℕ)) (x : Item) (k : Key) → IsInOrder c → IsRange c from to (IsObjectIn object.Key table.schema)
-    → AllWithin (λ y. IsFitting table columns y → ⊥) c from at → at < length c → x ≡ get_or c at x → x ≡ item.Key k → Fits table columns k → IsFirst (MayBeOf c table columns) k
+    → AllWithin (λ y. IsFitting table columns y → ⊥) c from at → at < length c → x ≡ get_or c at x → x ≡ item.Key k → HasKeyColumns table columns k → IsFirst (MayBeOf c table columns) k
 first_at c from to at table columns x k order range none within here is fits = record { among = ((at, within, there (item.Key k)), fits); before = before }
   where
     there : (d : Item) → get_or c at d ≡ item.Key k
@@ -112,7 +112,7 @@ module _ (table : Object) (columns : List (List ℕ)) where
 
   -- a key more that doesn't fit
   pub least_unfit : (own : List Key) (i : ℕ) (k : Key) (first : Option Key) → i < length own → k ≡ get_or own i k → IsLeastIfAny (MayBeAmong (take i own) table columns) first
-      → (Fits table columns k → ⊥) → IsLeastIfAny (MayBeAmong (take (i + 1) own) table columns) first
+      → (HasKeyColumns table columns k → ⊥) → IsLeastIfAny (MayBeAmong (take (i + 1) own) table columns) first
   least_unfit own i k first within is least unfit =
       subst (λ (keys : List Key). IsLeastIfAny (MayBeAmong keys table columns) first) (sym (grown own i k within is)) (by first least)
     where
@@ -120,7 +120,7 @@ module _ (table : Object) (columns : List (List ℕ)) where
       earlier other may =
           elim (Contains-push_cases (take i own) k other may.0) [
             | inl there ↦ (there, may.1)
-            | inr same ↦ absurd (unfit (subst (Fits table columns) (sym same) may.1))
+            | inr same ↦ absurd (unfit (subst (HasKeyColumns table columns) (sym same) may.1))
           ]
 
       by : (o : Option Key) → IsLeastIfAny (MayBeAmong (take i own) table columns) o → IsLeastIfAny (MayBeAmong (take i own ++ k ∷ []) table columns) o
@@ -148,7 +148,7 @@ module _ (table : Object) (columns : List (List ℕ)) where
 
   -- one that fits, and comes before
   pub least_new : (own : List Key) (i : ℕ) (k : Key) (first : Option Key) → i < length own → k ≡ get_or own i k → IsLeastIfAny (MayBeAmong (take i own) table columns) first
-      → Fits table columns k → IsBefore k first → IsLeastIfAny (MayBeAmong (take (i + 1) own) table columns) (Some k)
+      → HasKeyColumns table columns k → IsBefore k first → IsLeastIfAny (MayBeAmong (take (i + 1) own) table columns) (Some k)
   least_new own i k first within is least fits early =
       subst (λ (keys : List Key). IsLeastIfAny (MayBeAmong keys table columns) (Some k)) (sym (grown own i k within is)) (record {
         among = (Contains-push (take i own) k, fits);

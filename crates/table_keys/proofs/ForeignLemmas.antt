@@ -23,7 +23,7 @@ use Rattle.table_names.specs.Given.{target_of}
 use Rattle.table_names.specs.declared.named.NamedConstraint.{NamedConstraint}
 use Rattle.table_keys.specs.ForeignKeys.{AreForeignOf, IsBound, IsForeignOf, LacksKey, MakesForeign, foreign_key, no_such_key}
 use Rattle.table_keys.specs.Keys.{IsMeant, columns_meant}
-use Rattle.table_keys.specs.OneForeign.{AddsForeign, lacks_key}
+use Rattle.table_keys.specs.OneForeign.{AddsForeign, no_such_key_for}
 use Rattle.table_keys.proofs.MeantKeys.{one_meant}
 
 -- ---- one constraint
@@ -68,7 +68,7 @@ other_count c own who target columns references meant to is other k bound =
 -- a key is there
 pub has_key : (c : List Item) (own : List Key) (who : Who) (columns : List (List ℕ)) (references : References) (k : Key) (kind : TableConstraintKind)
     → IsBound c own who columns references k → kind ≡ kinds.ForeignKey columns references
-    → Passes (First (lacks_key c own who kind ∷ []))
+    → Passes (First (no_such_key_for c own who kind ∷ []))
 has_key c own who columns references k kind bound is refusal first =
     elim first [
       | inl lacks ↦ subst (LacksKey c own who) is lacks.0 k bound
@@ -139,11 +139,11 @@ module _ (c : List Item) (own : List Key) (who : Who) (made : Object) (named : L
 
   -- the exit where one does
   pub lacking_exit : {T U : Type 0} → (i : ℕ) (n : NamedConstraint) (Done : T → Type 0) (AllDone : U → Type 0) (e : EditError) (exit : Result U EditError) → i < length named → n ≡ get_or named i n
-      → IsErrAnd exit (λ error. error ≡ e) → IsTested (lacks_key c own who n.kind ∷ []) Done (Err e) → IsTested (no_such_key c own who named ∷ []) AllDone exit
+      → IsErrAnd exit (λ error. error ≡ e) → IsTested (no_such_key_for c own who n.kind ∷ []) Done (Err e) → IsTested (no_such_key c own who named ∷ []) AllDone exit
   lacking_exit i n Done AllDone e (Ok value) within is same tested = absurd same
   lacking_exit {T} {U} i n Done AllDone e (Err error) within is same tested = subst (λ (x : EditError). IsTested (no_such_key c own who named ∷ []) AllDone (Err x)) (sym same) (by e tested)
     where
-      by : (x : EditError) → IsTested (lacks_key c own who n.kind ∷ []) Done (Err x) → IsTested (no_such_key c own who named ∷ []) AllDone (Err x)
+      by : (x : EditError) → IsTested (no_such_key_for c own who n.kind ∷ []) Done (Err x) → IsTested (no_such_key c own who named ∷ []) AllDone (Err x)
       by (Refused refusal) h =
           elim h.0 [
             | inl lacks ↦ (inl (some_any (λ (m : NamedConstraint). LacksKey c own who m.kind) named i n within is lacks.0, lacks.1), tt)

@@ -14,7 +14,7 @@ use Rattle.cat_items.specs.declared.item.Item.{Item}
 use Rattle.cat_items.specs.declared.item.Key.{Key}
 use Rattle.table_parts.specs.declared.parts.Part.{Part}
 use Rattle.table_parts.specs.declared.parts.Part.TheVariants as parts
-use Rattle.table_parts.specs.Marks.{Differ, marks_in}
+use Rattle.table_parts.specs.Marks.{MarksDiffer, marks_in}
 use Rattle.table_parts.specs.Parts.{constraints_of}
 use Rattle.table_parts.proofs.Differing.{HaveOtherNames, constraint_names}
 use Rattle.table_parts.proofs.Pairs.{WithLater, all_pairs, with_later}
@@ -75,7 +75,7 @@ name_is_given (parts.Constraint x ∷ all) k name h is =
     ]
 
 -- no two constraints of a table have one name
-pub own_names : (c : List Item) (made : Object) (all : List Part) (named : List NamedConstraint) → Differ (marks_in all)
+pub own_names : (c : List Item) (made : Object) (all : List Part) (named : List NamedConstraint) → MarksDiffer (marks_in all)
     → AreNamed (IsFree c made.schema (given_names all)) [] (constraints_of all) named → HaveOwnNames named
 own_names c made all named differ are =
     all_pairs HaveOtherName named

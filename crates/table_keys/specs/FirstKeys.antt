@@ -11,20 +11,20 @@ use Rattle.cat_items.specs.Order.{object_cmp}
 use Rattle.table_keys.specs.Keys.{FitsColumns}
 
 -- a key of this table, in its schema, that may be meant by these columns
-abbrev pub Fits : Object → List NameBytes → Key → Type 0
-Fits table columns k = (k.table ≡ table) × (k.name.schema ≡ table.schema) × FitsColumns columns k
+abbrev pub HasKeyColumns : Object → List NameBytes → Key → Type 0
+HasKeyColumns table columns k = (k.table ≡ table) × (k.name.schema ≡ table.schema) × FitsColumns columns k
 
 -- an item that is such a key
 abbrev pub IsFitting : Object → List NameBytes → Item → Type 0
-IsFitting table columns (item.Key k) = Fits table columns k
+IsFitting table columns (item.Key k) = HasKeyColumns table columns k
 IsFitting table columns x = ⊥
 
 -- such a key of the catalogue, and one of those that are made
 abbrev pub MayBeOf : List Item → Object → List NameBytes → Key → Type 0
-MayBeOf c table columns k = Contains c (item.Key k) × Fits table columns k
+MayBeOf c table columns k = Contains c (item.Key k) × HasKeyColumns table columns k
 
 abbrev pub MayBeAmong : List Key → Object → List NameBytes → Key → Type 0
-MayBeAmong own table columns k = Contains own k × Fits table columns k
+MayBeAmong own table columns k = Contains own k × HasKeyColumns table columns k
 
 -- one of them that comes before the others
 pub record IsFirst (Among : Key → Type 0) (k : Key) : Type 0 where

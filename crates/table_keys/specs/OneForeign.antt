@@ -13,8 +13,8 @@ use Rattle.table_names.specs.declared.named.NamedConstraint.{NamedConstraint}
 use Rattle.table_keys.specs.ForeignKeys.{LacksKey, MakesForeign}
 
 -- no key is there for this one
-abbrev pub lacks_key : List Item → List Key → Who → TableConstraintKind → Refusal → Type 0
-lacks_key c own who kind refusal = LacksKey c own who kind × (refusal ≡ NoSuchKey)
+abbrev pub no_such_key_for : List Item → List Key → Who → TableConstraintKind → Refusal → Type 0
+no_such_key_for c own who kind refusal = LacksKey c own who kind × (refusal ≡ NoSuchKey)
 
 -- the foreign keys are those before, and what this one makes
 abbrev pub AddsForeign : List Item → List Key → Who → Object → NamedConstraint → List Foreign → List Foreign → Type 0

@@ -38,14 +38,14 @@ fn fits_columns(columns: &Items<Name>, key: &Key) -> bool
 
 /// Whether a key is of this table, in its schema, and may be meant by these columns.
 fn fits(table: &Object, columns: &Items<Name>, key: &Key) -> bool
-    ensures { IsTrue result ↔ keys.Fits table.now columns.now key.now }
+    ensures { IsTrue result ↔ keys.HasKeyColumns table.now columns.now key.now }
 {
     key.table.same(table) && key.name.schema.same(&table.schema) && fits_columns(columns, key)
 }
 
 /// The key that an item is, where it fits.
 fn fitting<'a>(table: &Object, columns: &Items<Name>, x: &'a Item) -> Option<&'a Key>
-    ensures found { IfSome (option_copied result) (λ key. (x.now ≡ item.Key key) × keys.Fits table.now columns.now key) }
+    ensures found { IfSome (option_copied result) (λ key. (x.now ≡ item.Key key) × keys.HasKeyColumns table.now columns.now key) }
     ensures none { IfNone (option_copied result) (¬ (keys.IsFitting table.now columns.now x.now)) }
 {
     match x {

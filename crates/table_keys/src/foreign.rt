@@ -89,7 +89,7 @@ fn push_foreign(
     requires good { IsGood c.now.items }
     requires new { ¬ (Has c.now.items (IsBaseTable made.now)) }
     requires own { AreKeysOf made.now own.now }
-    ensures { IsTested (one.lacks_key c.now.items own.now who.now constraint.now.kind ∷ []) (λ done. one.AddsForeign c.now.items own.now who.now made.now constraint.now all.old all.new) result }
+    ensures { IsTested (one.no_such_key_for c.now.items own.now who.now constraint.now.kind ∷ []) (λ done. one.AddsForeign c.now.items own.now who.now made.now constraint.now all.old all.new) result }
 {
     match &constraint.kind {
         TableConstraintKind::ForeignKey {

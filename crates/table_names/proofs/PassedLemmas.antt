@@ -11,7 +11,7 @@ use Rattle.cat_items.specs.declared.item.Item.{Item}
 use Rattle.edit_rules.specs.First.{First, HasPassed, Passes}
 use Rattle.edit_rules.specs.Names.{unknown_base_table}
 use Rattle.edit_rules.proofs.FirstLaws.{first_left, first_right, passes_both}
-use Rattle.table_names.specs.Given.{unknown_target}
+use Rattle.table_names.specs.Given.{unknown_referenced_table}
 
 -- tests that refuse alike
 pub passed_as : {T : Type 0} (tests others : List (Refusal → Type 0)) (result : Result T EditError) → ((refusal : Refusal) → First tests refusal ↔ First others refusal) → HasPassed tests result → HasPassed others result
@@ -31,9 +31,9 @@ refused_as T U tests others error (Err e) is goes h =
     at_error Memory g = g
 
 -- a target that isn't the table that is made
-pub target_passed : {T : Type 0} (c : List Item) (made table : Object) (result : Result T EditError) → table ≢ made → HasPassed (unknown_base_table c table ∷ []) result → HasPassed (unknown_target c made table ∷ []) result
+pub target_passed : {T : Type 0} (c : List Item) (made table : Object) (result : Result T EditError) → table ≢ made → HasPassed (unknown_base_table c table ∷ []) result → HasPassed (unknown_referenced_table c made table ∷ []) result
 target_passed c made table result other h =
-    passed_as (unknown_base_table c table ∷ []) (unknown_target c made table ∷ []) result
+    passed_as (unknown_base_table c table ∷ []) (unknown_referenced_table c made table ∷ []) result
     (λ refusal. (
       λ f. elim f [ inl r ↦ inl (other, r) | inr none ↦ absurd none.1 ],
       λ f. elim f [ inl r ↦ inl r.1 | inr none ↦ absurd none.1 ],

@@ -13,7 +13,7 @@ use Rattle.table_parts.specs.declared.marks.Mark.{Mark}
 use Rattle.table_parts.specs.declared.marks.Mark.TheVariants as marks
 use Rattle.table_parts.specs.declared.parts.Part.{Part}
 use Rattle.table_parts.specs.Marks.{IsRepeated, marks_in}
-use Rattle.table_names.specs.Given.{given_names, unknown_names}
+use Rattle.table_names.specs.Given.{given_names, unknown_names_of_parts}
 
 -- what is told of something that comes twice: its name, and of a second PRIMARY KEY the table
 abbrev pub told : Object → Mark → PathNames
@@ -23,8 +23,8 @@ told made marks.Primary = path_of made
 told made (marks.Own at name) = name ∷ []
 told made (marks.Target at name) = name ∷ []
 
-abbrev pub repeated : Object → List Part → Refusal → Type 0
-repeated made parts refusal = (mark : Mark) × IsRepeated (marks_in parts) mark × (refusal ≡ Repeated (told made mark))
+abbrev pub repeated_name : Object → List Part → Refusal → Type 0
+repeated_name made parts refusal = (mark : Mark) × IsRepeated (marks_in parts) mark × (refusal ≡ Repeated (told made mark))
 
 -- a constraint or an assertion of the schema has the name
 abbrev pub exists_in : List Item → NameBytes → NameBytes → Refusal → Type 0
@@ -34,5 +34,5 @@ exists_in c schema name = constraint_exists c (record { schema = schema; name = 
 abbrev pub taken_names : List Item → Object → List Part → List (Refusal → Type 0)
 taken_names c made parts = table_exists c made ∷ map (exists_in c made.schema) (given_names parts)
 
-abbrev pub name_refusals : List Item → Who → Object → List Part → List (Refusal → Type 0)
-name_refusals c who made parts = repeated made parts ∷ unknown_names c who made parts ++ (not_owner c who made.schema ∷ taken_names c made parts)
+abbrev pub table_name_refusals : List Item → Who → Object → List Part → List (Refusal → Type 0)
+table_name_refusals c who made parts = repeated_name made parts ∷ unknown_names_of_parts c who made parts ++ (not_owner c who made.schema ∷ taken_names c made parts)

@@ -34,7 +34,7 @@ fn test_columns(
     table: &Object,
     names: &Items<Name>,
 ) -> Result<(), EditError>
-    ensures { HasPassed (spec.unknown_columns c.now.items made.now parts.now table.now names.now) result }
+    ensures { HasPassed (spec.unknown_columns_of c.now.items made.now parts.now table.now names.now) result }
 {
     for name in names.as_slice() {
         if !is_known_column(c, made, parts, table, name) {
@@ -47,7 +47,7 @@ fn test_columns(
 
 /// Refuses a target that is neither the table that is made nor a base table.
 fn test_target(c: &Catalogue, made: &Object, table: &Object) -> Result<(), EditError>
-    ensures { HasPassed (spec.unknown_target c.now.items made.now table.now ∷ []) result }
+    ensures { HasPassed (spec.unknown_referenced_table c.now.items made.now table.now ∷ []) result }
 {
     if table.same(made) {
         return Ok(());
@@ -128,7 +128,7 @@ pub fn test_known(
     made: &Object,
     parts: &Items<Part>,
 ) -> Result<(), EditError>
-    ensures { HasPassed (spec.unknown_names c.now.items who.now made.now parts.now) result }
+    ensures { HasPassed (spec.unknown_names_of_parts c.now.items who.now made.now parts.now) result }
 {
     test_schema(c, &made.schema)?;
     test_parts(c, who, made, parts)

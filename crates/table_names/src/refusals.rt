@@ -2,7 +2,7 @@
 
 ghost use Rattle.std.specs.Prelude.{◌≡◌, ◌∷◌, [], IfOk, OnOk, map};
 ghost use Rattle.edit_rules.specs.First.{HasPassed};
-ghost use Rattle.table_parts.specs.Marks.{Differ, marks_in};
+ghost use Rattle.table_parts.specs.Marks.{MarksDiffer, marks_in};
 ghost use Rattle.table_names.specs.Given.{given_names};
 ghost use Rattle.table_names.specs.Refusals as spec;
 
@@ -27,8 +27,8 @@ fn told(made: &Object, mark: &Mark) -> Result<Path, AllocError>
 
 /// Refuses what comes twice, first in reading order.
 fn test_repeated(alloc: Global, made: &Object, parts: &Items<Part>) -> Result<(), EditError>
-    ensures tested { HasPassed (spec.repeated made.now parts.now ∷ []) result }
-    ensures differ { OnOk result (Differ (marks_in parts.now)) }
+    ensures tested { HasPassed (spec.repeated_name made.now parts.now ∷ []) result }
+    ensures differ { OnOk result (MarksDiffer (marks_in parts.now)) }
 {
     let marks = marks_of(alloc, parts)?;
     match first_repeated(&marks) {
@@ -84,8 +84,8 @@ pub fn test_names(
     made: &Object,
     parts: &Items<Part>,
 ) -> Result<(), EditError>
-    ensures tested { HasPassed (spec.name_refusals c.now.items who.now made.now parts.now) result }
-    ensures differ { OnOk result (Differ (marks_in parts.now)) }
+    ensures tested { HasPassed (spec.table_name_refusals c.now.items who.now made.now parts.now) result }
+    ensures differ { OnOk result (MarksDiffer (marks_in parts.now)) }
 {
     test_repeated(alloc, made, parts)?;
     test_known(c, who, made, parts)?;

@@ -12,7 +12,7 @@ use Rattle.table_parts.specs.declared.marks.Mark.{Mark}
 use Rattle.table_parts.specs.declared.marks.Mark.TheVariants as marks
 use Rattle.table_parts.specs.declared.parts.Part.{Part}
 use Rattle.table_parts.specs.declared.parts.Part.TheVariants as parts
-use Rattle.table_parts.specs.Marks.{Differ, kind_marks, marks_from, marks_in, name_marks, part_marks}
+use Rattle.table_parts.specs.Marks.{MarksDiffer, kind_marks, marks_from, marks_in, name_marks, part_marks}
 use Rattle.table_parts.specs.Parts.{columns_of, constraints_of}
 use Rattle.table_parts.proofs.Pairs.{WithLater, with_later, all_pairs, later_left, later_right, later_across, differ_before}
 
@@ -81,7 +81,7 @@ other_names at (parts.Constraint k ∷ all) later = (
 )
 
 -- no two constraints are given one name
-pub constraint_names : (all : List Part) → Differ (marks_in all) → AllPairs HaveOtherNames (constraints_of all)
+pub constraint_names : (all : List Part) → MarksDiffer (marks_in all) → AllPairs HaveOtherNames (constraints_of all)
 constraint_names all differ = all_pairs HaveOtherNames (constraints_of all) (other_names 0 all (with_later Apart (marks_in all) differ))
 
 abbrev pub AreOtherColumns : ColumnDefinition → ColumnDefinition → Type 0
@@ -93,7 +93,7 @@ other_columns at (parts.Column d ∷ all) later = (λ x h e. later.0 (marks.Colu
 other_columns at (parts.Constraint k ∷ all) later = other_columns (suc at) all (later_right Apart (part_marks at (parts.Constraint k)) (marks_from (suc at) all) later)
 
 -- no two columns have one name
-pub column_names : (all : List Part) → Differ (marks_in all) → AllPairs AreOtherColumns (columns_of all)
+pub column_names : (all : List Part) → MarksDiffer (marks_in all) → AllPairs AreOtherColumns (columns_of all)
 column_names all differ = all_pairs AreOtherColumns (columns_of all) (other_columns 0 all (with_later Apart (marks_in all) differ))
 
 -- ---- one PRIMARY KEY
@@ -110,7 +110,7 @@ not_both at (parts.Constraint k ∷ all) later = (
   not_both (suc at) all (later_right Apart (part_marks at (parts.Constraint k)) (marks_from (suc at) all) later),
 )
 
-pub one_primary : (all : List Part) → Differ (marks_in all) → AllPairs AreNotBothPrimary (constraints_of all)
+pub one_primary : (all : List Part) → MarksDiffer (marks_in all) → AllPairs AreNotBothPrimary (constraints_of all)
 one_primary all differ = all_pairs AreNotBothPrimary (constraints_of all) (not_both 0 all (with_later Apart (marks_in all) differ))
 
 -- ---- lists of columns
@@ -142,7 +142,7 @@ own_apart place (kinds.ForeignKey columns references) later = differ_before (mar
 own_apart place (kinds.Check condition) later = tt
 
 -- the own columns of a constraint differ
-pub own_columns : (all : List Part) (k : TableConstraint) → Differ (marks_in all) → Contains (constraints_of all) k → AllPairs (λ a b. a ≢ b) (own_list k.kind)
+pub own_columns : (all : List Part) (k : TableConstraint) → MarksDiffer (marks_in all) → Contains (constraints_of all) k → AllPairs (λ a b. a ≢ b) (own_list k.kind)
 own_columns all k differ h =
     let here = kind_apart 0 all k (with_later Apart (marks_in all) differ) h in
     all_pairs (λ a b. a ≢ b) (own_list k.kind) (own_apart here.0 k.kind here.1)
@@ -152,7 +152,7 @@ target_apart place columns references later =
     differ_before (marks.Target place) references.columns (later_right Apart (map (marks.Own place) columns) (map (marks.Target place) references.columns) later)
 
 -- the columns that REFERENCES names differ
-pub target_columns : (all : List Part) (k : TableConstraint) (columns : List (List ℕ)) (references : References) → Differ (marks_in all) → Contains (constraints_of all) k → k.kind ≡ kinds.ForeignKey columns references
+pub target_columns : (all : List Part) (k : TableConstraint) (columns : List (List ℕ)) (references : References) → MarksDiffer (marks_in all) → Contains (constraints_of all) k → k.kind ≡ kinds.ForeignKey columns references
     → AllPairs (λ a b. a ≢ b) references.columns
 target_columns all k columns references differ h e =
     let here = kind_apart 0 all k (with_later Apart (marks_in all) differ) h in

@@ -33,13 +33,13 @@ marks_from at (part ∷ others) = part_marks at part ++ marks_from (suc at) othe
 abbrev pub marks_in : List Part → List Mark
 marks_in all = marks_from 0 all
 
-abbrev pub Differ : List Mark → Type 0
-Differ all = AllPairs (λ a b. a ≢ b) all
+abbrev pub MarksDiffer : List Mark → Type 0
+MarksDiffer all = AllPairs (λ a b. a ≢ b) all
 
 -- the first mark that equals an earlier one
 pub record IsRepeated (all : List Mark) (mark : Mark) : Type 0 where
   pub before : List Mark
   pub after : List Mark
   pub parts : all ≡ before ++ mark ∷ after
-  pub differ : Differ before
+  pub differ : MarksDiffer before
   pub again : Contains before mark

@@ -55,6 +55,6 @@ abbrev pub columns_of : List Part → List ColumnDefinition
 columns_of all = flat_map column_of all
 
 -- the column of this name
-abbrev pub IsColumnNamed : NameBytes → Part → Type 0
-IsColumnNamed name (parts.Column c) = c.column ≡ name
-IsColumnNamed name (parts.Constraint k) = ⊥
+abbrev pub DefinesColumn : NameBytes → Part → Type 0
+DefinesColumn name (parts.Column c) = c.column ≡ name
+DefinesColumn name (parts.Constraint k) = ⊥

@@ -5,14 +5,14 @@ ghost use Rattle.std.specs.List.{Any};
 ghost use Rattle.std.specs.Option.{option_copied};
 ghost use Rattle.sql_tree.specs.declared.table.ColumnOption.TheVariants as variants;
 ghost use Rattle.table_parts.specs.Columns as spec;
-ghost use Rattle.table_parts.specs.Parts.{IsColumnNamed};
+ghost use Rattle.table_parts.specs.Parts.{DefinesColumn};
 
 use crate::parts::Part;
 use sql_tree::{ColumnDefinition, ColumnOption, Default, Items, Name, TableConstraintKind};
 
 /// Whether a part is the column of this name.
 fn is_column(part: &Part, name: &Name) -> bool
-    ensures { IsTrue result ↔ IsColumnNamed name.now part.now }
+    ensures { IsTrue result ↔ DefinesColumn name.now part.now }
 {
     match part {
         Part::Column(definition) => definition.column.same(name),
@@ -22,7 +22,7 @@ fn is_column(part: &Part, name: &Name) -> bool
 
 /// Whether a column has this name. It takes no memory.
 pub fn has_column(parts: &Items<Part>, name: &Name) -> bool
-    ensures { IsTrue result ↔ Any (IsColumnNamed name.now) parts.now }
+    ensures { IsTrue result ↔ Any (DefinesColumn name.now) parts.now }
 {
     for part in parts.as_slice() {
         if is_column(part, name) {

@@ -148,7 +148,7 @@ fn is_among(marks: &[Mark], mark: &Mark) -> bool
 /// The first mark that equals an earlier one. It takes no memory.
 pub fn first_repeated(marks: &Items<Mark>) -> Option<&Mark>
     ensures found { IfSome result (λ mark. spec.IsRepeated marks.now mark.now) }
-    ensures none { IfNone result (spec.Differ marks.now) }
+    ensures none { IfNone result (spec.MarksDiffer marks.now) }
 {
     let marks = marks.as_slice();
     for at in 0..marks.len() {

@@ -28,7 +28,7 @@ use Rattle.edit_rules.specs.Privileges.{IsLeastNeed}
 use Rattle.edit_rules.proofs.OwnerLemmas.{one_owner}
 use Rattle.table_parts.proofs.Pairs.{map_has}
 use Rattle.table_names.proofs.PassedLemmas.{passed_as}
-use Rattle.table_rules.specs.Needs.{IsNeededAmong, lacks_first}
+use Rattle.table_rules.specs.Needs.{IsNeededAmong, no_first_privilege}
 use Rattle.table_rules.specs.References.{IsNeededBy, IsUnmetIn}
 
 -- ---- the least of needs that are so
@@ -38,7 +38,7 @@ least_as : (P Q : Need → Type 0) → ((n : Need) → P n ↔ Q n) → (need : 
 least_as P Q same need h = record { is = (same need).0 h.is; least = λ other q. h.least other ((same other).1 q) }
 
 -- so is its refusal
-first_as : (P Q : Need → Type 0) → ((n : Need) → P n ↔ Q n) → (refusal : Refusal) → First (lacks_first P ∷ []) refusal → First (lacks_first Q ∷ []) refusal
+first_as : (P Q : Need → Type 0) → ((n : Need) → P n ↔ Q n) → (refusal : Refusal) → First (no_first_privilege P ∷ []) refusal → First (no_first_privilege Q ∷ []) refusal
 first_as P Q same refusal f = elim f [ inl r ↦ inl (r.0, least_as P Q same r.0 r.1, r.2) | inr none ↦ absurd none.1 ]
 
 -- what is not less than another doesn't come before it
@@ -61,9 +61,9 @@ least_from needs (Some m) there low = record {
 }
 
 -- needs that are so in two ways
-pub lacks_as : {T : Type 0} (P Q : Need → Type 0) (result : Result T EditError) → ((n : Need) → P n ↔ Q n) → HasPassed (lacks_first P ∷ []) result → HasPassed (lacks_first Q ∷ []) result
+pub lacks_as : {T : Type 0} (P Q : Need → Type 0) (result : Result T EditError) → ((n : Need) → P n ↔ Q n) → HasPassed (no_first_privilege P ∷ []) result → HasPassed (no_first_privilege Q ∷ []) result
 lacks_as P Q result same h =
-    passed_as (lacks_first P ∷ []) (lacks_first Q ∷ []) result (λ refusal. (first_as P Q same refusal, first_as Q P (λ n. ((same n).1, (same n).0)) refusal)) h
+    passed_as (no_first_privilege P ∷ []) (no_first_privilege Q ∷ []) result (λ refusal. (first_as P Q same refusal, first_as Q P (λ n. ((same n).1, (same n).0)) refusal)) h
 
 -- ---- the owner of a schema
 

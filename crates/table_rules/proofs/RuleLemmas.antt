@@ -15,8 +15,8 @@ use Rattle.edit_rules.proofs.FirstLaws.{error_of_first, exit_of_others, passes_b
 use Rattle.table_parts.specs.declared.parts.Part.{Part}
 use Rattle.table_names.specs.declared.named.NamedConstraint.{NamedConstraint}
 use Rattle.table_keys.specs.ForeignKeys.{AreForeignOf, IsForeignOf, no_such_key}
-use Rattle.table_rules.specs.Needs.{IsNeededAmong, lacks_least}
-use Rattle.table_rules.specs.References.{IsNeeded, IsUnmetIn, lacks_reference}
+use Rattle.table_rules.specs.Needs.{IsNeededAmong, no_least_privilege}
+use Rattle.table_rules.specs.References.{IsNeeded, IsUnmetIn, no_references_privilege}
 use Rattle.table_rules.specs.Rules.{rules_by_keys, too_many_places}
 use Rattle.table_rules.specs.Types.{type_mismatch}
 use Rattle.table_rules.proofs.NeedLemmas.{lacks_as, unmet_as}
@@ -38,7 +38,7 @@ module _ (c : List Item) (own : List Key) (who : Who) (made : Object) (all : Lis
   by_keys = no_such_key c own who named
 
   abbrev by_needs : Refusal → Type 0
-  by_needs = lacks_reference c own who made named
+  by_needs = no_references_privilege c own who made named
 
   abbrev AreForeign : List Foreign → Type 0
   AreForeign = AreForeignOf c own who made named
@@ -56,7 +56,7 @@ module _ (c : List Item) (own : List Key) (who : Who) (made : Object) (all : Lis
 
   -- what the foreign keys of a list need is what the constraints need
   needs_passed : (foreign : List Foreign) (result : Result (Unit {0}) EditError) → AreForeign foreign
-      → HasPassed (lacks_least c made.schema (IsNeededAmong made foreign) ∷ []) result → HasPassed (by_needs ∷ []) result
+      → HasPassed (no_least_privilege c made.schema (IsNeededAmong made foreign) ∷ []) result → HasPassed (by_needs ∷ []) result
   needs_passed foreign result is h =
       lacks_as (λ n. IsNeededAmong made foreign n × IsUnmetIn c made.schema n) (λ n. IsNeeded c own who made named n × IsUnmetIn c made.schema n) result
       (unmet_as made foreign (IsForeignOf c own who made named) (IsUnmetIn c made.schema) is) h
@@ -64,14 +64,14 @@ module _ (c : List Item) (own : List Key) (who : Who) (made : Object) (all : Lis
   -- a privilege that is wanting, behind places
   pub refused_by_needs : (foreign : List Foreign) (e : EditError) (exit : Result (List Foreign) EditError) → IsErrAnd exit (λ error. error ≡ e) → AreForeign foreign
       → Passes (First (by_types ∷ [])) → Passes (First (by_keys ∷ [])) → Passes (First (too_many_places all ∷ []))
-      → HasPassed {T = Unit {0}} (lacks_least c made.schema (IsNeededAmong made foreign) ∷ []) (Err e) → IsTested (rules_by_keys c own who made all named) AreForeign exit
+      → HasPassed {T = Unit {0}} (no_least_privilege c made.schema (IsNeededAmong made foreign) ∷ []) (Err e) → IsTested (rules_by_keys c own who made all named) AreForeign exit
   refused_by_needs foreign e exit is those types keys places h =
       exit_between (by_types ∷ by_keys ∷ too_many_places all ∷ []) (by_needs ∷ []) [] (λ (_ : Unit {0}). Unit {0}) AreForeign e exit is
       (passes_three by_types by_keys (too_many_places all) types keys places) (needs_passed foreign (Err e) those h)
 
   -- none of them refuses
   pub none_refuses : (foreign : List Foreign) → AreForeign foreign → Passes (First (by_types ∷ [])) → Passes (First (by_keys ∷ [])) → Passes (First (too_many_places all ∷ []))
-      → HasPassed {T = Unit {0}} (lacks_least c made.schema (IsNeededAmong made foreign) ∷ []) (Ok tt) → IsTested (rules_by_keys c own who made all named) AreForeign (Ok foreign)
+      → HasPassed {T = Unit {0}} (no_least_privilege c made.schema (IsNeededAmong made foreign) ∷ []) (Ok tt) → IsTested (rules_by_keys c own who made all named) AreForeign (Ok foreign)
   none_refuses foreign those types keys places h = (
     passes_both (by_types ∷ by_keys ∷ too_many_places all ∷ []) (by_needs ∷ []) (passes_three by_types by_keys (too_many_places all) types keys places) (needs_passed foreign (Ok tt) those h).0,
     those,

@@ -19,15 +19,15 @@ use Rattle.table_parts.specs.declared.parts.Part.TheVariants as parts
 use Rattle.table_parts.specs.Marks.{IsRepeated, marks_in}
 use Rattle.table_parts.specs.Parts.{constraints_of}
 use Rattle.table_names.specs.declared.named.NamedConstraint.{NamedConstraint}
-use Rattle.table_names.specs.Given.{given_names, unknown_column, unknown_columns, unknown_in_kind, unknown_in_part, unknown_in_references, unknown_names, target_of}
+use Rattle.table_names.specs.Given.{given_names, unknown_column_of, unknown_columns_of, unknown_in_kind, unknown_in_part, unknown_in_references, unknown_names_of_parts, target_of}
 use Rattle.table_names.specs.Named.{AreNamed, IsFree, IsNameFor, IsSystemName, system_name}
-use Rattle.table_names.specs.Refusals.{exists_in, name_refusals, repeated, taken_names, told}
-use Rattle.table_rules.specs.References.{lacks_reference}
+use Rattle.table_names.specs.Refusals.{exists_in, table_name_refusals, repeated_name, taken_names, told}
+use Rattle.table_rules.specs.References.{no_references_privilege}
 use Rattle.table_rules.specs.Rules.{AreConstraints, for_constraints, rule_refusals, table_refusals}
 
--- ---- the first mark that is repeated
+-- ---- the first mark that is repeated_name
 
--- the first mark that is repeated isn't before another first one
+-- the first mark that is repeated_name isn't before another first one
 no_earlier : (all : List Mark) (a b : Mark) (p : IsRepeated all a) (q : IsRepeated all b) → length p.before < length q.before → ⊥
 no_earlier all a b p q less =
     let k : ℕ = p.again.0 in
@@ -54,15 +54,15 @@ one_repeated all a b p q = by (cases_lt (length p.before) (length q.before)) (ca
 -- ---- names
 
 -- columns that must stand
-columns_settled : (c : List Item) (made : Object) (all : List Part) (table : Object) (names : List (List ℕ)) → AreSettled (unknown_columns c made all table names)
-columns_settled c made all table names = settled_map (unknown_column c made all table) (λ n a b p q. p.1 ∙ sym q.1) names
+columns_settled : (c : List Item) (made : Object) (all : List Part) (table : Object) (names : List (List ℕ)) → AreSettled (unknown_columns_of c made all table names)
+columns_settled c made all table names = settled_map (unknown_column_of c made all table) (λ n a b p q. p.1 ∙ sym q.1) names
 
 -- names of a constraint
 kind_settled : (c : List Item) (who : Who) (made : Object) (all : List Part) (kind : TableConstraintKind) → AreSettled (unknown_in_kind c who made all kind)
 kind_settled c who made all (kinds.PrimaryKey columns) = columns_settled c made all made columns
 kind_settled c who made all (kinds.Unique columns) = columns_settled c made all made columns
 kind_settled c who made all (kinds.ForeignKey columns references) =
-    settled_append (unknown_columns c made all made columns) (unknown_in_references c who made all references) (columns_settled c made all made columns)
+    settled_append (unknown_columns_of c made all made columns) (unknown_in_references c who made all references) (columns_settled c made all made columns)
     ((λ a b p q. p.1.1 ∙ sym q.1.1), columns_settled c made all (target_of who references) references.columns)
 kind_settled c who made all (kinds.Check condition) = tt
 
@@ -72,7 +72,7 @@ part_settled c who made all (parts.Column d) = tt
 part_settled c who made all (parts.Constraint k) = kind_settled c who made all k.kind
 
 -- names that must stand
-unknown_settled : (c : List Item) (who : Who) (made : Object) (all : List Part) → AreSettled (unknown_names c who made all)
+unknown_settled : (c : List Item) (who : Who) (made : Object) (all : List Part) → AreSettled (unknown_names_of_parts c who made all)
 unknown_settled c who made all = ((λ a b p q. p.1 ∙ sym q.1), settled_each (unknown_in_part c who made all) (part_settled c who made all) all)
 
 -- names that must be free
@@ -80,13 +80,13 @@ taken_settled : (c : List Item) (made : Object) (all : List Part) → AreSettled
 taken_settled c made all = ((λ a b p q. p.1 ∙ sym q.1), settled_map (exists_in c made.schema) (λ n a b p q. p.1 ∙ sym q.1) (given_names all))
 
 -- what comes twice
-repeated_settled : (made : Object) (all : List Part) → IsSettled (repeated made all)
+repeated_settled : (made : Object) (all : List Part) → IsSettled (repeated_name made all)
 repeated_settled made all a b p q = p.2 ∙ ap (λ m. Repeated (told made m)) (one_repeated (marks_in all) p.0 q.0 p.1 q.1) ∙ sym q.2
 
 -- all tests of names and owners
-names_settled : (c : List Item) (who : Who) (made : Object) (all : List Part) → AreSettled (name_refusals c who made all)
+names_settled : (c : List Item) (who : Who) (made : Object) (all : List Part) → AreSettled (table_name_refusals c who made all)
 names_settled c who made all =
-    (repeated_settled made all, settled_append (unknown_names c who made all) _ (unknown_settled c who made all) ((λ a b p q. p.1 ∙ sym q.1), taken_settled c made all))
+    (repeated_settled made all, settled_append (unknown_names_of_parts c who made all) _ (unknown_settled c who made all) ((λ a b p q. p.1 ∙ sym q.1), taken_settled c made all))
 
 -- ---- the names of constraints
 
@@ -129,7 +129,7 @@ constraints_settled c made all a b p q = named_settled (IsFree c made.schema (gi
 -- ---- rules
 
 -- the privilege that is wanting
-reference_settled : (c : List Item) (own : List Key) (who : Who) (made : Object) (named : List NamedConstraint) → IsSettled (lacks_reference c own who made named)
+reference_settled : (c : List Item) (own : List Key) (who : Who) (made : Object) (named : List NamedConstraint) → IsSettled (no_references_privilege c own who made named)
 reference_settled c own who made named a b p q = p.2 ∙ ap NoPrivilege (least_settled _ p.0 q.0 p.1 q.1) ∙ sym q.2
 
 -- the tests behind those by names and owners
@@ -144,4 +144,4 @@ for_constraints_settled c who made all a b p q =
 
 -- two refusals of one test of CREATE TABLE are one
 pub table_refusals_settled : (c : List Item) (who : Who) (made : Object) (all : List Part) → AreSettled (table_refusals c who made all)
-table_refusals_settled c who made all = settled_append (name_refusals c who made all) _ (names_settled c who made all) (for_constraints_settled c who made all, tt)
+table_refusals_settled c who made all = settled_append (table_name_refusals c who made all) _ (names_settled c who made all) (for_constraints_settled c who made all, tt)

@@ -16,9 +16,9 @@ abbrev pub IsNeededAmong : Object → List Foreign → Need → Type 0
 IsNeededAmong made foreign need = (f : Foreign) × Contains foreign f × IsNeededBy made f need
 
 -- the least of some needs is told
-abbrev pub lacks_first : (Need → Type 0) → Refusal → Type 0
-lacks_first P refusal = (need : Need) × IsLeastNeed P need × (refusal ≡ NoPrivilege need)
+abbrev pub no_first_privilege : (Need → Type 0) → Refusal → Type 0
+no_first_privilege P refusal = (need : Need) × IsLeastNeed P need × (refusal ≡ NoPrivilege need)
 
 -- the least of those that aren't met for the owner of a schema
-abbrev pub lacks_least : List Item → NameBytes → (Need → Type 0) → Refusal → Type 0
-lacks_least c schema P = lacks_first (λ n. P n × IsUnmetIn c schema n)
+abbrev pub no_least_privilege : List Item → NameBytes → (Need → Type 0) → Refusal → Type 0
+no_least_privilege c schema P = no_first_privilege (λ n. P n × IsUnmetIn c schema n)

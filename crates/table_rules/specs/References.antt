@@ -28,5 +28,5 @@ abbrev pub IsUnmetIn : List Item → NameBytes → Need → Type 0
 IsUnmetIn c schema need = ¬ (Has c (MeetsAll false c schema (need ∷ [])))
 
 -- the least of these needs that isn't met is told
-abbrev pub lacks_reference : List Item → List Key → Who → Object → List NamedConstraint → Refusal → Type 0
-lacks_reference c own who made named refusal = (need : Need) × IsLeastNeed (λ n. IsNeeded c own who made named n × IsUnmetIn c made.schema n) need × (refusal ≡ NoPrivilege need)
+abbrev pub no_references_privilege : List Item → List Key → Who → Object → List NamedConstraint → Refusal → Type 0
+no_references_privilege c own who made named refusal = (need : Need) × IsLeastNeed (λ n. IsNeeded c own who made named n × IsUnmetIn c made.schema n) need × (refusal ≡ NoPrivilege need)

@@ -11,11 +11,11 @@ use Rattle.table_parts.specs.declared.parts.Part.{Part}
 use Rattle.table_parts.specs.Parts.{columns_of, constraints_of}
 use Rattle.table_names.specs.Given.{given_names}
 use Rattle.table_names.specs.Named.{AreNamed, IsFree}
-use Rattle.table_names.specs.Refusals.{name_refusals}
+use Rattle.table_names.specs.Refusals.{table_name_refusals}
 use Rattle.table_names.specs.declared.named.NamedConstraint.{NamedConstraint}
 use Rattle.table_keys.specs.ForeignKeys.{no_such_key}
 use Rattle.table_keys.specs.Keys.{own_keys}
-use Rattle.table_rules.specs.References.{lacks_reference}
+use Rattle.table_rules.specs.References.{no_references_privilege}
 use Rattle.table_rules.specs.Types.{type_mismatch}
 
 -- more columns than there are places
@@ -28,7 +28,7 @@ rules_by_keys c own who made all named =
     type_mismatch c own who made all named
     ∷ no_such_key c own who named
     ∷ too_many_places all
-    ∷ lacks_reference c own who made named
+    ∷ no_references_privilege c own who made named
     ∷ []
 
 abbrev pub rule_refusals : List Item → Who → Object → List Part → List NamedConstraint → List (Refusal → Type 0)
@@ -43,4 +43,4 @@ for_constraints c made all test refusal = (named : List NamedConstraint) × AreC
 
 -- all tests of CREATE TABLE
 abbrev pub table_refusals : List Item → Who → Object → List Part → List (Refusal → Type 0)
-table_refusals c who made all = name_refusals c who made all ++ for_constraints c made all (λ named. First (rule_refusals c who made all named)) ∷ []
+table_refusals c who made all = table_name_refusals c who made all ++ for_constraints c made all (λ named. First (rule_refusals c who made all named)) ∷ []

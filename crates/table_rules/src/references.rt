@@ -75,7 +75,7 @@ fn least_of(needs: &Items<Need>) -> Option<&Need>
 
 /// Refuses the first need of a list, where it has one.
 fn test_none(needs: &Items<Need>) -> Result<(), EditError>
-    ensures { HasPassed (spec.lacks_first (Contains needs.now) ∷ []) result }
+    ensures { HasPassed (spec.no_first_privilege (Contains needs.now) ∷ []) result }
 {
     match least_of(needs) {
         None => Ok(()),
@@ -94,7 +94,7 @@ fn test_needs(
     needs: &Items<Need>,
 ) -> Result<(), EditError>
     requires { IsInOrder c.now.items }
-    ensures { HasPassed (spec.lacks_least c.now.items schema.now (Contains needs.now) ∷ []) result }
+    ensures { HasPassed (spec.no_least_privilege c.now.items schema.now (Contains needs.now) ∷ []) result }
 {
     match owner_of(c, schema) {
         Some(owner) => test_privileges(alloc, c, owner, needs),
@@ -110,7 +110,7 @@ pub fn test_references(
     foreign: &Items<Shared<Foreign>>,
 ) -> Result<(), EditError>
     requires { IsInOrder c.now.items }
-    ensures { HasPassed (spec.lacks_least c.now.items made.now.schema (spec.IsNeededAmong made.now foreign.now) ∷ []) result }
+    ensures { HasPassed (spec.no_least_privilege c.now.items made.now.schema (spec.IsNeededAmong made.now foreign.now) ∷ []) result }
 {
     let needs = needs_of(alloc, made, foreign)?;
     test_needs(alloc, c, &made.schema, &needs)

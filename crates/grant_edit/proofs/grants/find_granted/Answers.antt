@@ -3,7 +3,7 @@ use Rattle.std.specs.List.{Contains}
 use Rattle.std.proofs.lemmas.Bool.{both_ways}
 use Rattle.cat_items.specs.declared.need.Need.{Need}
 use Rattle.edit_rules.proofs.Lists.{take_next, take_whole}
-use Rattle.grant_edit.specs.Grants.{AllGranted, CanGrant, IsGranted}
+use Rattle.grant_edit.specs.Grants.{AllGranted, CanGrant, IsToBeGranted}
 use Rattle.grant_edit.proofs.GrantLemmas.{all_more, granted_more, granted_same, not_all}
 use Rattle.grant_edit.proofs.Lists.{contains_at}
 use Rattle.grant_edit.proofs.grants.find_granted.Goals as goal
@@ -33,8 +33,8 @@ loop-need-preserved c =
           let can : CanGrant items grantor need = subst (CanGrant items grantor) c.into.ensures (c.met_by.ensures.answer.0 w.if-met_by.true) in
           record {
             room = w.walk-is ∙ w.in_ok-push_granted.ensures.room ∙ c.met_by.ensures.room ∙ c.loop-need.invariant.room;
-            members = λ n. subst (λ l. Contains c.if-met_by.needs.items n ↔ IsGranted items grantor object l n) (sym next)
-                (subst (λ (v : Vec Need Global). Contains v.items n ↔ IsGranted items grantor object (front ++ need ∷ []) n) (sym w.needs-is)
+            members = λ n. subst (λ l. Contains c.if-met_by.needs.items n ↔ IsToBeGranted items grantor object l n) (sym next)
+                (subst (λ (v : Vec Need Global). Contains v.items n ↔ IsToBeGranted items grantor object (front ++ need ∷ []) n) (sym w.needs-is)
                 (granted_more items grantor object old w.push_granted.new.needs.items front need c.loop-need.invariant.members w.in_ok-push_granted.ensures.members n));
             all = subst (λ l. AllGranted items grantor l c.if-met_by.all) (sym next)
                 (subst (λ b. AllGranted items grantor (front ++ need ∷ []) b) (sym w.all-is) (all_more items grantor front need c.loop-need.all c.loop-need.invariant.all can));
@@ -43,8 +43,8 @@ loop-need-preserved c =
           let cannot : CanGrant items grantor need → ⊥ = λ can. both_ways _ w.if-met_by.false (c.met_by.ensures.answer.1 (subst (CanGrant items grantor) (sym c.into.ensures) can)) in
           record {
             room = w.walk-is ∙ c.met_by.ensures.room ∙ c.loop-need.invariant.room;
-            members = λ n. subst (λ l. Contains c.if-met_by.needs.items n ↔ IsGranted items grantor object l n) (sym next)
-                (subst (λ (v : Vec Need Global). Contains v.items n ↔ IsGranted items grantor object (front ++ need ∷ []) n) (sym w.needs-is)
+            members = λ n. subst (λ l. Contains c.if-met_by.needs.items n ↔ IsToBeGranted items grantor object l n) (sym next)
+                (subst (λ (v : Vec Need Global). Contains v.items n ↔ IsToBeGranted items grantor object (front ++ need ∷ []) n) (sym w.needs-is)
                 (granted_same items grantor object old front need c.loop-need.invariant.members cannot n));
             all = subst (λ l. AllGranted items grantor l c.if-met_by.all) (sym next)
                 (subst (λ b. AllGranted items grantor (front ++ need ∷ []) b) (sym w.all-is) (not_all items grantor front need cannot));
@@ -53,7 +53,7 @@ loop-need-preserved c =
 
 pub returns-clause-members : goal.returns-clause-members
 returns-clause-members c need =
-    subst (λ l. Contains c.loop-need.needs.items need ↔ IsGranted c.args.c.now.items c.args.grantor.now c.args.object.now l need) (take_whole c.args.named.now.items c.deref-need-items.result.now c.loop-need.need-index c.deref-need-items.ensures.value c.loop-need-test.false) (c.loop-need.invariant.members need)
+    subst (λ l. Contains c.loop-need.needs.items need ↔ IsToBeGranted c.args.c.now.items c.args.grantor.now c.args.object.now l need) (take_whole c.args.named.now.items c.deref-need-items.result.now c.loop-need.need-index c.deref-need-items.ensures.value c.loop-need-test.false) (c.loop-need.invariant.members need)
 
 pub returns-clause-all : goal.returns-clause-all
 returns-clause-all c =

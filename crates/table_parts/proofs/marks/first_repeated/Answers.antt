@@ -1,6 +1,6 @@
 use Rattle.std.proofs.Common.{◌≡◌, List, false, true, subst}
 use Rattle.table_parts.specs.declared.marks.Mark.{Mark}
-use Rattle.table_parts.specs.Marks.{Differ, IsRepeated}
+use Rattle.table_parts.specs.Marks.{MarksDiffer, IsRepeated}
 use Rattle.table_parts.proofs.Repeats.{parted_at, differ_more, differ_all}
 use Rattle.table_parts.proofs.marks.first_repeated.Goals as goal
 
@@ -20,4 +20,4 @@ loop-at-preserved c = record {
 }
 
 pub returns-clause-none : goal.returns-clause-none
-returns-clause-none c = subst Differ c.as_slice-marks.ensures (differ_all c.as_slice-marks.result.now c.loop-at.at c.loop-at-test.false c.loop-at.invariant.differ)
+returns-clause-none c = subst MarksDiffer c.as_slice-marks.ensures (differ_all c.as_slice-marks.result.now c.loop-at.at c.loop-at-test.false c.loop-at.invariant.differ)

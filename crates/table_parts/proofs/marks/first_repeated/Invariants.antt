@@ -1,6 +1,6 @@
 use Rattle.std.proofs.Common.{take}
-use Rattle.table_parts.specs.Marks.{Differ}
+use Rattle.table_parts.specs.Marks.{MarksDiffer}
 use Rattle.table_parts.proofs.marks.first_repeated.Given as goal
 
 abbrev pub invariant-loop-at : goal.invariant-loop-at
-invariant-loop-at l = record { differ : Differ (take l.at l.marks) }
+invariant-loop-at l = record { differ : MarksDiffer (take l.at l.marks) }
