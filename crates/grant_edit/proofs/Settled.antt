@@ -21,7 +21,7 @@ use Rattle.edit_rules.proofs.SettledEdits.{adding_settled, taking_settled}
 use Rattle.grant_edit.specs.Grants.{IsGrant, IsToBeGranted}
 use Rattle.grant_edit.specs.Named.{named_grantees}
 use Rattle.grant_edit.specs.Revokes.{IsIdentifiedRight}
-use Rattle.grant_edit.specs.Statements.{granting_refusals, revoking_refusals, no_privilege_granted, privileges_named, GrantsEdit, Revokes, target_object}
+use Rattle.grant_edit.specs.Statements.{revoked_by, granting_refusals, revoking_refusals, no_privilege_granted, privileges_named, GrantsEdit, Revokes, target_object}
 use Rattle.grant_edit.specs.Targets.{unknown_listed_columns, unknown_grantee, unknown_names_of_rights, unknown_target_object}
 
 columns_settled : (c : List Item) (object : Object) (privileges : Privileges) → AreSettled (unknown_listed_columns c object privileges)
@@ -59,6 +59,6 @@ granting_settled c who parts a b p q =
 
 pub revocation_settled : (c : List Item) (who : Who) (parts : RevokePrivileges) (a b : Edit) → Revokes c who parts a → Revokes c who parts b → a ≡ b
 revocation_settled c who parts a b p q =
-    let P : List ℕ → Item → Type 0 = λ n. IsIdentifiedRight (target_object who parts.target) (privileges_named who parts.privileges parts.target) n (named_grantees parts.grantees) parts.option_alone in
+    let P : List ℕ → Item → Type 0 = λ n. IsIdentifiedRight (revoked_by n (target_object who parts.target) parts) in
     let same : p.0 ≡ q.0 = grantor_settled c who parts.grantor p.0 q.0 p.1 q.1 in
     taking_settled c (P q.0) a b (subst (λ n. IsTaking c (P n) a) same p.2) q.2

@@ -23,7 +23,7 @@ use Rattle.edit_laws.proofs.Fits.{edited_of_taking, fit_of_adding, fit_of_taking
 use Rattle.edit_laws.proofs.GoodCatalogues.{good_order}
 use Rattle.edit_laws.proofs.Shapes.{keeps_without_columns, plain_derived, right_is_no_column, shape_of_plain, shape_of_taking}
 use Rattle.edit_rules.specs.Chosen.{IsAdding, IsTaking}
-use Rattle.grant_edit.specs.Revokes.{IsIdentifiedRight}
+use Rattle.grant_edit.specs.Revokes.{IsIdentifiedRight, Revoked}
 use Rattle.grant_edit.proofs.RightLemmas.{same_right}
 
 right_has_no_shape : (x : Item) → IsRight x → HasNoShape x
@@ -55,29 +55,29 @@ adding_is_sound c P edit good adds right =
     whole : adding edit.added ≡ edit
     whole = λ i. record { target = sym adds.target i; changed = sym adds.changed i; added = edit.added }
 
-identified_right : (object : Object) (named : List Need) (grantor : List ℕ) (whom : List Auth) (alone : Bool) (x : Item) → IsIdentifiedRight object named grantor whom alone x → IsRight x
-identified_right object named grantor whom alone (item.Held r) h = tt
-identified_right object named grantor whom alone (item.Grantable r) h = tt
-identified_right object named grantor whom alone _ h = absurd h
+identified_right : (k : Revoked) (x : Item) → IsIdentifiedRight k x → IsRight x
+identified_right k (item.Held r) h = tt
+identified_right k (item.Grantable r) h = tt
+identified_right k _ h = absurd h
 
-identified_by : (object : Object) (named : List Need) (grantor : List ℕ) (whom : List Auth) (alone : Bool) (x : Item) → IsIdentifiedRight object named grantor whom alone x → ¬ (IsBySystem x)
-identified_by object named grantor whom alone (item.Held r) h e = let by = h.1.1 in cc
-identified_by object named grantor whom alone (item.Grantable r) h e = let by = h.1 in cc
-identified_by object named grantor whom alone _ h e = h
+identified_by : (k : Revoked) (x : Item) → IsIdentifiedRight k x → ¬ (IsBySystem x)
+identified_by k (item.Held r) h e = let by = h.1.1 in cc
+identified_by k (item.Grantable r) h e = let by = h.1 in cc
+identified_by k _ h e = h
 
 -- rights by a named grantor that are destroyed
-pub taking_is_sound : (c : List Item) (object : Object) (named : List Need) (grantor : List ℕ) (whom : List Auth) (alone : Bool) (edit : Edit) → IsGood c → IsTaking c (IsIdentifiedRight object named grantor whom alone) edit → IsSound c edit
-taking_is_sound c object named grantor whom alone edit good takes =
+pub taking_is_sound : (c : List Item) (k : Revoked) (edit : Edit) → IsGood c → IsTaking c (IsIdentifiedRight k) edit → IsSound c edit
+taking_is_sound c k edit good takes =
     let within : IsWithin edit.target c = λ x h. ((takes.target.members x).0 h).0 in
     let edited = edited_of_taking c edit.target (good_order c good) within in
     let fit = fit_of_taking c edit.target edited.0 takes.target.order within edited.1
-    (λ x h. gone_without_system edited.0 x (identified_by object named grantor whom alone x ((takes.target.members x).0 h).1)) in
+    (λ x h. gone_without_system edited.0 x (identified_by k x ((takes.target.members x).0 h).1)) in
     let keeps = keeps_without_columns c (taking edit.target) columns in
     let shape = shape_of_taking c edit.target edited.0 good.shape edited.1 keeps in
     subst (IsSound c) whole (record { edited = edited.0; fit = fit; shape = shape })
   where
     columns : (x : Item) → Contains edit.target x ⊎ Contains [] x → (t : Object) → ¬ (IsColumnOf t x)
-    columns x (inl h) t = right_is_no_column x (identified_right object named grantor whom alone x ((takes.target.members x).0 h).1) t
+    columns x (inl h) t = right_is_no_column x (identified_right k x ((takes.target.members x).0 h).1) t
     columns x (inr none) t = absurd (Contains-nil x none)
 
     whole : taking edit.target ≡ edit

@@ -30,7 +30,7 @@ use Rattle.grant_edit.specs.declared.grants.Granting.{Granting}
 use Rattle.grant_edit.specs.Grants.{AllGranted, CanGrant, GrantsSome, IsGrant, IsToBeGranted, IsGrantedBy, IsPartial, no_privilege_to_grant}
 use Rattle.grant_edit.specs.Named.{grants_less_than_listed, named_grantees, named_privileges}
 use Rattle.grant_edit.specs.Revokes.{IsIdentifiedRight}
-use Rattle.grant_edit.specs.Statements.{Grants, GrantsBy, Revokes, RevokesBy, granting_refusals, no_privilege_granted, privileges_named, revoking_refusals, target_object}
+use Rattle.grant_edit.specs.Statements.{revoked_by, Grants, GrantsBy, Revokes, RevokesBy, granting_refusals, no_privilege_granted, privileges_named, revoking_refusals, target_object}
 use Rattle.grant_edit.specs.Targets.{unknown_names_of_rights}
 use Rattle.grant_edit.proofs.RightLemmas.{grant_is_right, of_same}
 use Rattle.grant_edit.proofs.Soundness.{adding_is_sound, taking_is_sound}
@@ -164,17 +164,17 @@ grants_are_sound c grantor object parts granting grants good =
 pub revokes_by : (c : List Item) (grantor : List ℕ) (object : Object) (parts : RevokePrivileges) (named : List Need) (edit : Edit)
     → named ≡ named_privileges parts.target.kind object parts.privileges
     → IsInOrder edit.target
-    → ((x : Item) → Contains edit.target x ↔ (Contains c x × IsIdentifiedRight object named grantor (named_grantees parts.grantees) parts.option_alone x))
+    → ((x : Item) → Contains edit.target x ↔ (Contains c x × IsIdentifiedRight (record { object = object; named = named; grantor = grantor; grantees = named_grantees parts.grantees; option_alone = parts.option_alone }) x))
     → edit.changed ≡ [] → edit.added ≡ []
     → RevokesBy c grantor object parts edit
 revokes_by c grantor object parts named edit is order members changed added = record {
   target = record {
     order = order;
-    members = λ x. subst (λ l. Contains edit.target x ↔ (Contains c x × IsIdentifiedRight object l grantor (named_grantees parts.grantees) parts.option_alone x)) is (members x);
+    members = λ x. subst (λ l. Contains edit.target x ↔ (Contains c x × IsIdentifiedRight (record { object = object; named = l; grantor = grantor; grantees = named_grantees parts.grantees; option_alone = parts.option_alone }) x)) is (members x);
   };
   changed = changed;
   added = added;
 }
 
 pub revokes_are_sound : (c : List Item) (grantor : List ℕ) (object : Object) (parts : RevokePrivileges) (edit : Edit) → RevokesBy c grantor object parts edit → IsGood c → IsSound c edit
-revokes_are_sound c grantor object parts edit revokes good = taking_is_sound c object (named_privileges parts.target.kind object parts.privileges) grantor (named_grantees parts.grantees) parts.option_alone edit good revokes
+revokes_are_sound c grantor object parts edit revokes good = taking_is_sound c (revoked_by grantor object parts) edit good revokes

@@ -19,7 +19,7 @@ use Rattle.grant_edit.specs.declared.grants.Granting.{Granting}
 use Rattle.edit_rules.specs.Chosen.{IsAdding, IsTaking}
 use Rattle.grant_edit.specs.Grants.{IsGrant, IsToBeGranted, IsPartial, no_privilege_to_grant}
 use Rattle.grant_edit.specs.Named.{named_grantees, named_privileges}
-use Rattle.grant_edit.specs.Revokes.{IsIdentifiedRight}
+use Rattle.grant_edit.specs.Revokes.{IsIdentifiedRight, Revoked}
 use Rattle.grant_edit.specs.Targets.{unknown_names_of_rights}
 
 -- the object that a target names, in the session's schema where it names none
@@ -43,16 +43,16 @@ granting_refusals c who parts = unknown_names_of_rights c (target_object who par
 abbrev pub GrantsEditBy : List Item → NameBytes → Object → GrantPrivileges → Edit → Type 0
 GrantsEditBy c grantor object parts edit = IsAdding (IsGrant (IsToBeGranted c grantor object (named_privileges parts.target.kind object parts.privileges)) grantor (named_grantees parts.grantees) parts.grant_option) edit
 
--- the same, and the warning is due where that isn't all
+-- this grantor grants so, and the warning is due where not all that is named can be granted
 pub record GrantsBy (c : List Item) (grantor : NameBytes) (object : Object) (parts : GrantPrivileges) (granting : Granting) : Type 0 where
   pub edit : GrantsEditBy c grantor object parts granting.edit
   pub partial : IsTrue granting.partial ↔ IsPartial c grantor parts.privileges (named_privileges parts.target.kind object parts.privileges)
 
--- the same by the statement's grantor
+-- GRANT by the statement's grantor: its edit, and whether a warning is due
 abbrev pub Grants : List Item → Who → GrantPrivileges → Granting → Type 0
 Grants c who parts granting = (grantor : NameBytes) × IsGrantor c who parts.grantor grantor × GrantsBy c grantor (target_object who parts.target) parts granting
 
--- the edit alone by the statement's grantor
+-- the edit of GRANT by the statement's grantor
 abbrev pub GrantsEdit : List Item → Who → GrantPrivileges → Edit → Type 0
 GrantsEdit c who parts edit = (grantor : NameBytes) × IsGrantor c who parts.grantor grantor × GrantsEditBy c grantor (target_object who parts.target) parts edit
 
@@ -61,11 +61,21 @@ abbrev pub revoking_refusals : List Item → Who → RevokePrivileges → List (
 revoking_refusals c who parts = unknown_names_of_rights c (target_object who parts.target) parts.privileges parts.target.kind parts.grantees
     ++ no_current_role c who parts.grantor ∷ []
 
+-- what a grantor revokes by a statement on an object
+abbrev pub revoked_by : NameBytes → Object → RevokePrivileges → Revoked
+revoked_by grantor object parts = record {
+  object = object;
+  named = named_privileges parts.target.kind object parts.privileges;
+  grantor = grantor;
+  grantees = named_grantees parts.grantees;
+  option_alone = parts.option_alone;
+}
+
 -- what this grantor granted to the grantees of what is named on the object is destroyed
 abbrev pub RevokesBy : List Item → NameBytes → Object → RevokePrivileges → Edit → Type 0
-RevokesBy c grantor object parts edit = IsTaking c (IsIdentifiedRight object (named_privileges parts.target.kind object parts.privileges) grantor (named_grantees parts.grantees) parts.option_alone) edit
+RevokesBy c grantor object parts edit = IsTaking c (IsIdentifiedRight (revoked_by grantor object parts)) edit
 
--- the same by the statement's grantor
+-- the edit of REVOKE by the statement's grantor
 abbrev pub Revokes : List Item → Who → RevokePrivileges → Edit → Type 0
 Revokes c who parts edit = (grantor : NameBytes) × IsGrantor c who parts.grantor grantor × RevokesBy c grantor (target_object who parts.target) parts edit
 

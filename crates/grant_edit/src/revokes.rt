@@ -93,7 +93,7 @@ fn is_by(auth: &Auth, grantor: &Name) -> bool
 /// Whether a right is revoked.
 fn is_revoked_right(revoking: Revoking<'_>, right: &Right) -> bool
     requires { (n : Need) → Contains revoking.named.now.items n → n.on ≡ path_of revoking.object.now }
-    ensures { IsTrue result ↔ spec.IsRevokedRight revoking.entry.object.now revoking.entry.named.now.items revoking.entry.grantor.now (named_grantees revoking.entry.grantees.now) right.now }
+    ensures { IsTrue result ↔ spec.IsRevokedRight (spec.revoked_of revoking.entry) right.now }
 {
     is_by(&right.grantor, revoking.grantor)
         && is_among(revoking.grantees, &right.grantee)
@@ -103,7 +103,7 @@ fn is_revoked_right(revoking: Revoking<'_>, right: &Right) -> bool
 /// Whether an item is identified.
 fn is_identified(revoking: Revoking<'_>, x: &Item) -> bool
     requires { (n : Need) → Contains revoking.named.now.items n → n.on ≡ path_of revoking.object.now }
-    ensures { IsTrue result ↔ spec.IsIdentifiedRight revoking.entry.object.now revoking.entry.named.now.items revoking.entry.grantor.now (named_grantees revoking.entry.grantees.now) revoking.entry.option_alone x.now }
+    ensures { IsTrue result ↔ spec.IsIdentifiedRight (spec.revoked_of revoking.entry) x.now }
 {
     match x {
         Item::Held(right) => !revoking.option_alone && is_revoked_right(revoking, right.get()),
@@ -120,7 +120,7 @@ pub fn identified(
 ) -> Result<Items<Item>, AllocError>
     requires { (n : Need) → Contains revoking.named.now.items n → n.on ≡ path_of revoking.object.now }
     ensures order { IfOk result IsInOrder }
-    ensures members { IfOk result (λ target. (x : Item) → Contains target x ↔ (Contains c.now.items x × spec.IsIdentifiedRight revoking.entry.object.now revoking.entry.named.now.items revoking.entry.grantor.now (named_grantees revoking.entry.grantees.now) revoking.entry.option_alone x)) }
+    ensures members { IfOk result (λ target. (x : Item) → Contains target x ↔ (Contains c.now.items x × spec.IsIdentifiedRight (spec.revoked_of revoking.entry) x)) }
 {
     let mut target = Items::new(alloc);
     for x in c.items() {

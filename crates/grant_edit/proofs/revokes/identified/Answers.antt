@@ -3,8 +3,7 @@ use Rattle.std.proofs.lemmas.Bool.{both_ways}
 use Rattle.std.proofs.lemmas.List.{take-append-drop}
 use Rattle.cat_items.specs.declared.item.Item.{Item}
 use Rattle.edit_rules.proofs.Lists.{take_next, take_whole}
-use Rattle.grant_edit.specs.Named.{named_grantees}
-use Rattle.grant_edit.specs.Revokes.{IsIdentifiedRight}
+use Rattle.grant_edit.specs.Revokes.{IsIdentifiedRight, revoked_of}
 use Rattle.grant_edit.proofs.RevokeLemmas.{AreThose, taken_order, those_with, those_without}
 use Rattle.grant_edit.proofs.revokes.identified.Goals as goal
 use Rattle.grant_edit.proofs.revokes.identified.Goals.{then-is_identified+in_ok-copy+in_ok-push, else-is_identified}
@@ -12,7 +11,7 @@ use Rattle.grant_edit.proofs.revokes.identified.Goals.{then-is_identified+in_ok-
 pub loop-x-preserved : goal.loop-x-preserved
 loop-x-preserved c =
     let r = c.args.revoking in
-    let P = IsIdentifiedRight r.object.now r.named.now.items r.grantor.now (named_grantees r.grantees.now) r.option_alone in
+    let P = IsIdentifiedRight (revoked_of r) in
     let items = c.args.c.now.items in
     let old = c.loop-x.target in
     let next = take_next items c.items-x-items.result.now c.loop-x.x-index c.items-x-items.ensures.items c.x-item.result c.loop-x-test.true c.x-item.is in
@@ -32,5 +31,5 @@ loop-x-preserved c =
 pub returns-clause-members : goal.returns-clause-members
 returns-clause-members c =
     let r = c.args.revoking in
-    let P = IsIdentifiedRight r.object.now r.named.now.items r.grantor.now (named_grantees r.grantees.now) r.option_alone in
+    let P = IsIdentifiedRight (revoked_of r) in
     subst (λ l. AreThose P l c.loop-x.target) (take_whole c.args.c.now.items c.items-x-items.result.now c.loop-x.x-index c.items-x-items.ensures.items c.loop-x-test.false) c.loop-x.invariant.members
