@@ -17,6 +17,3 @@ pub use laws::{
     a_step_is_settled, connections_have_their_own_names,
 };
 pub use reply::Reply;
-
-#[cfg(test)]
-mod tests;

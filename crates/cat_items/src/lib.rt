@@ -14,8 +14,6 @@ mod ranges;
 mod room;
 mod row;
 mod sameness;
-#[cfg(test)]
-mod tests;
 mod texts;
 mod threads;
 

@@ -33,6 +33,3 @@ pub use history::{Ended, Event};
 pub use machine::Machine;
 pub use pass::Pass;
 pub use shared::Shared;
-
-#[cfg(test)]
-mod tests;

@@ -12,6 +12,3 @@ mod start;
 pub use print::write_reply;
 pub use script::{Ended, Ran, run_script};
 pub use start::{Status, top};
-
-#[cfg(test)]
-mod tests;

@@ -3,7 +3,5 @@
 
 mod creations;
 mod schemas;
-#[cfg(test)]
-mod tests;
 
 pub use creations::{edit_create, is_built_creation};

@@ -8,8 +8,6 @@ mod rounds;
 mod standing;
 mod support;
 mod system;
-#[cfg(test)]
-mod tests;
 
 pub use meeting::{Needs, met, met_by};
 pub use rounds::survivors;

@@ -12,6 +12,3 @@ mod unlinking;
 pub use index::Index;
 pub use laws::a_change_undone_in_reverse;
 pub use steps::Steps;
-
-#[cfg(test)]
-mod tests;

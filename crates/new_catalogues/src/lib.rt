@@ -3,8 +3,6 @@
 
 mod edits;
 mod taken;
-#[cfg(test)]
-mod tests;
 mod width;
 
 pub use edits::new_catalogue;

@@ -5,8 +5,6 @@ mod actor;
 mod cycle;
 mod grants;
 mod roles;
-#[cfg(test)]
-mod tests;
 mod trail;
 mod walk;
 

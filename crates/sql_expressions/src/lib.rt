@@ -9,6 +9,3 @@ mod queries;
 
 pub use grammar::{expr, query};
 pub use laws::{brackets_are_counted, expressions_are_read_exactly, queries_are_read_exactly};
-
-#[cfg(test)]
-mod tests;

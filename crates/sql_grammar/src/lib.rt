@@ -12,6 +12,3 @@ mod statements;
 pub use laws::brackets_are_counted;
 pub use sql_phrases::GrammarError;
 pub use statements::{statement, unambiguous};
-
-#[cfg(test)]
-mod tests;

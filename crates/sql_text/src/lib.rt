@@ -3,8 +3,6 @@
 
 mod bodies;
 mod exprs;
-#[cfg(test)]
-mod tests;
 
 pub use bodies::{print_body, put_body};
 pub use exprs::{print_expr, print_query, put_expr, put_query};

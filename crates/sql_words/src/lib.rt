@@ -20,6 +20,3 @@ pub use sql_spelling::{
     Kind, is_name, is_reserved, is_reserved_word, reserved_words_are_no_names, same_kind,
 };
 pub use word::{Symbol, Word};
-
-#[cfg(test)]
-mod tests;

@@ -11,8 +11,6 @@ mod memory;
 mod put;
 mod standard;
 mod tcp;
-#[cfg(test)]
-mod tests;
 mod traits;
 
 pub use connections::{MemConn, MemListener};

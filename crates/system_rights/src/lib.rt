@@ -2,7 +2,5 @@
 #![tactic(auto)]
 
 mod system;
-#[cfg(test)]
-mod tests;
 
 pub use system::system_items;

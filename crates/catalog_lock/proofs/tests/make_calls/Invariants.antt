@@ -1,8 +1,0 @@
-use Rattle.std.proofs.Common.{◌≡◌, ◌≤◌, length, vec_capacity}
-use Rattle.catalog_lock.specs.declared.tests.TheConstants.{CALLS}
-use Rattle.catalog_lock.proofs.tests.make_calls.Given as goal
-
-abbrev pub invariant-loop-i : goal.invariant-loop-i
-invariant-loop-i g l =
-    (l.pass.table ≡ l.shared) × (l.pass.number ≡ l.initial.pass.number)
-    × (length l.replies.items ≡ l.i) × (CALLS ≤ vec_capacity l.replies)

@@ -1,0 +1,5 @@
+//! Tests of the calls on catalogues: edits, what they leave, who reaches whom, and the texts of items.
+#![tactic(auto)]
+
+#[cfg(test)]
+mod tests;

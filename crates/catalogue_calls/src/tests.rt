@@ -1,0 +1,387 @@
+//! Catalogues are those of a book after a script. The numbers of items were counted by hand.
+
+ghost use Rattle.std.specs.Prelude.{◌≡◌, IfOk};
+ghost use Rattle.cat_items.specs.Good.{IsGood};
+ghost use Rattle.catalogue_edits.specs.Statements.{IsBuiltEdit};
+ghost use Rattle.define_edit.specs.Creations.{HasForms};
+
+use cat_engine::{Book, Reply};
+use cat_items::{
+    Auth, Catalogue, Edit, EditError, Item, Limits, Marks, Shared, View, Who, find, item_text,
+    need_text, same_item,
+};
+use catalogue_edits::is_edit;
+use define_edit::edit_create;
+use drop_edit::edit_drop;
+use grant_chain::survivors;
+use grant_edit::{edit_grant, edit_revoke};
+use item_index::Steps;
+use role_edit::edit_role;
+use role_graph::{Walk, applicable, enabled, makes_cycle, reaches};
+use sql_grammar::statement;
+use sql_tree::{Items, Name, Object, Statement, Text};
+use sql_words::words;
+use std::alloc::{AllocError, Global};
+use std::marker::Brand;
+use std::process::Abort;
+use std::sync::ledger::{Blank, Ledger};
+use std::test::Fail;
+use system_rights::system_items;
+
+fn name(alloc: Global, text: &str) -> Result<Name, Fail> {
+    Ok(Name::of(alloc, text.as_bytes())?.ok_or("no name")?)
+}
+
+/// The book of the users ALICE, BOB and CAROL.
+fn book(alloc: Global) -> Result<Book, Fail> {
+    let mut users = Vec::new(alloc);
+    users.push(Name::of(alloc, b"ALICE")?.ok_or("no name")?)?;
+    users.push(Name::of(alloc, b"BOB")?.ok_or("no name")?)?;
+    users.push(Name::of(alloc, b"CAROL")?.ok_or("no name")?)?;
+    Ok(Book::new(alloc, &users, Limits::standard())?)
+}
+
+/// The statement that a text is.
+fn tree_of(alloc: Global, text: &[u8]) -> Result<Statement, Fail> {
+    let Ok(words) = words(alloc, text) else {
+        return Err("no words")?;
+    };
+    match statement(alloc, &words) {
+        Ok(tree) => Ok(tree),
+        Err(_) => Err("no tree")?,
+    }
+}
+
+/// The statement that a text is, which edits a catalogue.
+fn read(alloc: Global, text: &[u8]) -> Result<Statement, Fail>
+    ensures built { IfOk result IsBuiltEdit }
+    ensures forms { IfOk result HasForms }
+{
+    let words = match words(alloc, text) {
+        Ok(words) => words,
+        Err(_) => return Err(Fail::from("no words")),
+    };
+    let tree = match statement(alloc, &words) {
+        Ok(tree) => tree,
+        Err(_) => return Err(Fail::from("no tree")),
+    };
+    if !is_edit(&tree) {
+        return Err(Fail::from("no edit"));
+    }
+    Ok(tree)
+}
+
+fn edit_of(
+    alloc: Global,
+    c: &Catalogue,
+    who: &Who,
+    statement: &Statement,
+) -> Result<Edit, EditError>
+    requires good { IsGood c.now.items }
+    requires built { IsBuiltEdit statement.now }
+    requires forms { HasForms statement.now }
+{
+    match statement {
+        Statement::CreateSchema(_) => edit_create(alloc, c, who, statement),
+        Statement::CreateTable(_) => edit_create(alloc, c, who, statement),
+        Statement::DropObject(_) => edit_drop(alloc, c, who, statement),
+        Statement::DropRole(_) => edit_drop(alloc, c, who, statement),
+        Statement::CreateRole(_) => edit_role(alloc, c, who, statement),
+        Statement::GrantRoles(_) => edit_role(alloc, c, who, statement),
+        Statement::RevokeRoles(_) => edit_role(alloc, c, who, statement),
+        Statement::GrantPrivileges(_) => Ok(edit_grant(alloc, c, who, statement)?.edit),
+        Statement::RevokePrivileges(_) => edit_revoke(alloc, c, who, statement),
+        _ => unreachable!(),
+    }
+}
+
+/// How many items the edit of a statement destroys and how many it adds; none of these statements changes one.
+fn counted(alloc: Global, book: &Book, text: &str) -> Result<String, Fail> {
+    let statement = read(alloc, text.as_bytes())?;
+    let Some(who) = book.who(0) else {
+        return Err("no connection")?;
+    };
+    let Ok(edit) = edit_of(alloc, book.catalogue(), who, &statement) else {
+        return Err("no edit")?;
+    };
+    if !edit.changed.is_empty() {
+        return Err("something is changed")?;
+    }
+    let (target, added) = (edit.target.len(), edit.added.len());
+    Ok(format!(in alloc; "{target} {added}")?)
+}
+
+/// The book after the statements of a script, a line each. Where ` => ` and two numbers stand behind a statement, its edit
+/// destroys and adds so many items.
+fn book_after<L: Ledger>(
+    rt: &impl Abort,
+    alloc: Global,
+    blank: Blank,
+    script: &str,
+) -> Result<Book, Fail>
+    requires name { blank.name ≡ L.name }
+    requires parts { blank.parts ≡ L.parts }
+    requires whole { blank.parts ≡ 1 }
+{
+    let mut steps: Steps<L> = Steps::new(blank);
+    let mut book = book(alloc)?;
+    for row in script.lines() {
+        let (text, counts) = row.split_once(" => ").unwrap_or((row, ""));
+        if !counts.is_empty() {
+            assert_eq!(rt; counted(alloc, &book, text)?.as_str(), counts, "{text}");
+        }
+        let short = text.len() <= 65_535;
+        assert!(rt;
+            short && matches!(book.apply(0, text.as_bytes(), &mut steps), Reply::Ok),
+            "{text}"
+        );
+    }
+    Ok(book)
+}
+
+fn book_of(rt: &impl Abort, alloc: Global, script: &str) -> Result<Book, Fail> {
+    book_after::<Brand>(rt, alloc, Blank::new(1), script)
+}
+
+/// Of tables: 3 columns, 2 keys and 2 foreign keys; 1 column and 1 foreign key. Of a GRANT: held and with grant option, on the
+/// table and on each column. Of the role: its grant and its admin option; what goes with it: 3 grants, 2 admin options and 2
+/// rights. What goes with tables: their parts, 9 and 17 rights, each held and with grant option, and the one of PUBLIC.
+const EDITS: &str = "CONNECT TO 'D' USER 'ALICE'
+CREATE SCHEMA ALICE => 0 1
+CREATE SCHEMA S AUTHORIZATION ALICE => 0 1
+CREATE TABLE T (K INTEGER PRIMARY KEY, P INTEGER REFERENCES T, N VARCHAR(9) DEFAULT 'X' CONSTRAINT U UNIQUE, CONSTRAINT F FOREIGN KEY (P) REFERENCES T (K) ON DELETE CASCADE) => 0 8
+CREATE TABLE S.V (A INTEGER NOT NULL REFERENCES T (K)) => 0 3
+GRANT SELECT ON T TO BOB WITH GRANT OPTION => 0 8
+CREATE ROLE R => 0 3
+GRANT R TO BOB, CAROL WITH ADMIN OPTION => 0 4
+GRANT UPDATE (P), DELETE ON T TO R, PUBLIC => 0 4
+REVOKE DELETE ON T FROM PUBLIC => 1 0
+REVOKE SELECT ON T FROM BOB => 8 0
+REVOKE ADMIN OPTION FOR R FROM BOB => 1 0
+DROP ROLE R => 8 0
+DROP TABLE S.V => 21 0
+DROP TABLE T => 43 0";
+
+#[test]
+fn edits_destroy_and_add_so_many_items(rt: HostRuntime) -> Result<(), Fail> {
+    book_of(&rt, rt.alloc(), EDITS)?;
+    Ok(())
+}
+
+/// BOB and CAROL grant SELECT to each other, and ALICE takes hers from BOB and leaves it to CAROL.
+const CYCLE: &str = "CONNECT TO 'D' AS 'C' USER 'CAROL'
+CREATE SCHEMA CAROL
+CONNECT TO 'D' AS 'B' USER 'BOB'
+CREATE SCHEMA BOB
+CONNECT TO 'D' AS 'A' USER 'ALICE'
+CREATE SCHEMA ALICE
+CREATE TABLE T (X INTEGER, Y INTEGER) => 0 3
+GRANT SELECT ON T TO BOB WITH GRANT OPTION => 0 6
+SET CONNECTION 'B'
+GRANT SELECT ON ALICE.T TO CAROL WITH GRANT OPTION => 0 6
+SET CONNECTION 'C'
+GRANT SELECT ON ALICE.T TO BOB WITH GRANT OPTION => 0 6
+SET CONNECTION 'A'
+GRANT SELECT ON T TO CAROL WITH GRANT OPTION => 0 6
+REVOKE SELECT ON T FROM BOB CASCADE => 6 0";
+
+/// What users granted then.
+const GRANTED: &str = "SELECT ON TABLE ALICE.T BY ALICE TO CAROL
+SELECT ON TABLE ALICE.T BY BOB TO CAROL
+SELECT ON TABLE ALICE.T BY CAROL TO BOB
+SELECT ON COLUMN ALICE.T.X BY ALICE TO CAROL
+SELECT ON COLUMN ALICE.T.X BY BOB TO CAROL
+SELECT ON COLUMN ALICE.T.X BY CAROL TO BOB
+SELECT ON COLUMN ALICE.T.Y BY ALICE TO CAROL
+SELECT ON COLUMN ALICE.T.Y BY BOB TO CAROL
+SELECT ON COLUMN ALICE.T.Y BY CAROL TO BOB
+GRANT OPTION SELECT ON TABLE ALICE.T BY ALICE TO CAROL
+GRANT OPTION SELECT ON TABLE ALICE.T BY BOB TO CAROL
+GRANT OPTION SELECT ON TABLE ALICE.T BY CAROL TO BOB
+GRANT OPTION SELECT ON COLUMN ALICE.T.X BY ALICE TO CAROL
+GRANT OPTION SELECT ON COLUMN ALICE.T.X BY BOB TO CAROL
+GRANT OPTION SELECT ON COLUMN ALICE.T.X BY CAROL TO BOB
+GRANT OPTION SELECT ON COLUMN ALICE.T.Y BY ALICE TO CAROL
+GRANT OPTION SELECT ON COLUMN ALICE.T.Y BY BOB TO CAROL
+GRANT OPTION SELECT ON COLUMN ALICE.T.Y BY CAROL TO BOB
+";
+
+/// Whether an item is a right that a user or role granted.
+fn is_granted(x: &Item) -> bool {
+    match x {
+        Item::Held(right) | Item::Grantable(right) => !matches!(right.get().grantor, Auth::System),
+        _ => false,
+    }
+}
+
+/// The rights that users and roles granted, a line each.
+fn granted(alloc: Global, c: &Catalogue) -> Result<Text, AllocError> {
+    let mut lines = Text::new(alloc);
+    for x in c.items() {
+        if is_granted(x) {
+            lines.push_all(item_text(alloc, x)?.bytes())?;
+            lines.push(b'\n')?;
+        }
+    }
+    Ok(lines)
+}
+
+/// The text of the need of the first right.
+fn first_need(alloc: Global, c: &Catalogue) -> Result<Text, AllocError> {
+    for x in c.items() {
+        if let Item::Held(right) = x {
+            return need_text(alloc, &right.get().need);
+        }
+    }
+    Ok(Text::new(alloc))
+}
+
+fn utf8(text: &Text) -> &str {
+    str::from_utf8(text.bytes()).unwrap_or("not UTF-8")
+}
+
+#[test]
+fn a_cycle_with_a_second_support_stays(rt: HostRuntime) -> Result<(), Fail> {
+    let alloc = rt.alloc();
+    let book = book_of(&rt, alloc, CYCLE)?;
+    let c = book.catalogue();
+    assert_eq!(rt; utf8(&granted(alloc, c)?), GRANTED);
+    assert_eq!(rt; utf8(&first_need(alloc, c)?), "SELECT ON TABLE ALICE.T");
+    let kept = survivors(alloc, c)?.items().len();
+    assert_eq!(rt;
+        (kept, system_items(alloc, c)?.len()),
+        (c.items().len(), 26)
+    );
+    Ok(())
+}
+
+/// Puts in an item whose key no item has.
+fn put(c: &mut Catalogue, item: Item) -> Result<(), AllocError> {
+    c.reserve(1)?;
+    match find(c, &item) {
+        None => c.put_in(item),
+        Some(_) => {}
+    }
+    Ok(())
+}
+
+/// How many items fall where those whose texts begin so are gone.
+fn fallen(alloc: Global, c: &Catalogue, front: &str) -> Result<usize, Fail> {
+    let mut left = Catalogue::of_sorted(Vec::new(alloc));
+    for x in c.items() {
+        if !item_text(alloc, x)?.bytes().starts_with(front.as_bytes()) {
+            put(&mut left, x.copy()?)?;
+        }
+    }
+    let kept = survivors(alloc, &left)?;
+    Ok(left.items().len().saturating_sub(kept.items().len()))
+}
+
+/// Items of a catalogue, and how many others rest on them.
+const RESTING: [(&str, usize); 8] = [
+    ("SCHEMA ALICE", 47),
+    ("COLUMN ALICE.T.X", 14),
+    // a table without columns, with all rights on it
+    ("COLUMN ALICE.T.", 45),
+    // the user's schema, and what the other user got by this one
+    ("USER CAROL", 19),
+    ("SELECT ON TABLE ALICE.T BY ALICE TO CAROL", 5),
+    ("GRANT OPTION SELECT ON TABLE ALICE.T BY ALICE TO CAROL", 4),
+    ("GRANT OPTION SELECT ON TABLE ALICE.T BY BOB TO CAROL", 0),
+    ("GRANT OPTION SELECT ON TABLE ALICE.T BY CAROL TO BOB", 2),
+];
+
+#[test]
+fn what_rests_on_an_item_falls_with_it(rt: HostRuntime) -> Result<(), Fail> {
+    let book = book_of(&rt, rt.alloc(), CYCLE)?;
+    for (front, count) in RESTING {
+        assert_eq!(rt;
+            fallen(rt.alloc(), book.catalogue(), front)?,
+            count,
+            "{front}"
+        );
+    }
+    Ok(())
+}
+
+const ROLES: &str = "CONNECT TO 'D' USER 'ALICE'
+CREATE ROLE R1 => 0 3
+CREATE ROLE R2 => 0 3
+GRANT R2 TO R1 => 0 1";
+
+/// Whether one reaches another, by all grants and by all that are marked.
+fn reach(alloc: Global, c: &Catalogue, from: &str, to: &str) -> Result<[bool; 2], Fail> {
+    let from = Auth::Named(name(alloc, from)?);
+    let to = Auth::Named(name(alloc, to)?);
+    let mut walk = Walk::new(alloc, c)?;
+    let mut marks = Marks::new(alloc, c)?;
+    for at in 0..marks.len() {
+        marks.mark(at);
+    }
+    Ok([
+        reaches(alloc, c, &from, &to)?,
+        walk.reaches(c, &marks, &from, &to),
+    ])
+}
+
+/// Whether a grant of one role to another would close a cycle.
+fn closes(alloc: Global, c: &Catalogue, role: &str, grantee: &str) -> Result<bool, Fail> {
+    let roles = vec![in alloc; name(alloc, role)?]?;
+    let grantees = vec![in alloc; name(alloc, grantee)?]?;
+    Ok(makes_cycle(alloc, c, &roles, &grantees)?)
+}
+
+/// How many roles are enabled for ALICE where this one is set.
+fn enabled_by(alloc: Global, c: &Catalogue, role: Option<Name>) -> Result<usize, Fail> {
+    let who = Who {
+        user: name(alloc, "ALICE")?,
+        role,
+        schema: name(alloc, "ALICE")?,
+    };
+    Ok(enabled(alloc, c, &who)?.len())
+}
+
+#[test]
+fn roles_are_reached_one_from_another(rt: HostRuntime) -> Result<(), Fail> {
+    let alloc = rt.alloc();
+    let book = book_of(&rt, alloc, ROLES)?;
+    let c = book.catalogue();
+    let first = reach(alloc, c, "R1", "R2")?;
+    let second = reach(alloc, c, "R2", "R1")?;
+    assert_eq!(rt; [first, second], [[true; 2], [false; 2]]);
+    let closed = [closes(alloc, c, "R1", "R2")?, closes(alloc, c, "R2", "R1")?];
+    assert_eq!(rt; closed, [true, false]);
+    let roles = applicable(alloc, c, &name(alloc, "ALICE")?)?;
+    assert!(rt;
+        matches!(roles.as_slice(), [one, two] if one.bytes() == b"R1".as_slice() && two.bytes() == b"R2".as_slice())
+    );
+    let set = enabled_by(alloc, c, Some(name(alloc, "R1")?))?;
+    assert_eq!(rt; [enabled_by(alloc, c, None)?, set], [0, 2]);
+    Ok(())
+}
+
+fn view(alloc: Global) -> Result<Item, Fail> {
+    let tree = tree_of(alloc, b"CREATE VIEW V AS SELECT * FROM T")?;
+    let Statement::CreateView(made) = &tree else {
+        return Err("no view")?;
+    };
+    let view = View {
+        view: Object {
+            schema: name(alloc, "ALICE")?,
+            name: name(alloc, "V")?,
+        },
+        query: made.query.copy(alloc)?,
+        needs: Items::new(alloc),
+        base: None,
+        base_columns: Items::new(alloc),
+    };
+    Ok(Item::View(Shared::new(alloc, view)?))
+}
+
+#[test]
+fn copies_are_the_same(rt: HostRuntime) -> Result<(), Fail> {
+    let view = view(rt.alloc())?;
+    assert!(rt; same_item(&view, &view.copy()?));
+    assert_eq!(rt; utf8(&item_text(rt.alloc(), &view)?), "VIEW ALICE.V");
+    Ok(())
+}

@@ -1,0 +1,5 @@
+mod counter;
+mod index;
+mod lines;
+mod sessions;
+mod turns;

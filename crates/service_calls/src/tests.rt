@@ -1,0 +1,195 @@
+ghost use Rattle.std.specs.Prelude.{◌≡◌};
+
+use cat_engine::Book;
+use cat_items::Limits;
+use ddl_service::{Status, top, write_reply};
+use item_index::Steps;
+use sql_tree::Name;
+use std::alloc::{AllocError, Global};
+use std::marker::Brand;
+use std::sync::ledger::{Blank, Ledger};
+use std::test::Fail;
+use svc_io::{MemSink, MemSource};
+
+fn book(alloc: Global, limits: Limits) -> Result<Book, Fail> {
+    let alice = Name::of(alloc, b"ALICE")?.ok_or("no name")?;
+    let mut users = Vec::new(alloc);
+    users.push(alice)?;
+    Ok(Book::new(alloc, &users, limits)?)
+}
+
+/// What a book of the user ALICE and these limits answers to session 7.
+fn replies_of<L: Ledger>(
+    alloc: Global,
+    blank: Blank,
+    limits: Limits,
+    script: &str,
+) -> Result<MemSink, Fail>
+    requires name { blank.name ≡ L.name }
+    requires parts { blank.parts ≡ L.parts }
+    requires whole { blank.parts ≡ 1 }
+{
+    let mut steps: Steps<L> = Steps::new(blank);
+    let mut book = book(alloc, limits)?;
+    let mut sink = MemSink::new(alloc, 100, 1000, Vec::new(alloc))?;
+    for text in script.lines() {
+        if text.len() <= 65_535 {
+            let reply = book.apply(7, text.as_bytes(), &mut steps);
+            write_reply(&mut sink, &reply).or(Err("no room"))?;
+        }
+    }
+    Ok(sink)
+}
+
+fn limits(items: u32, columns: u32, journal: u64) -> Limits {
+    Limits {
+        items,
+        columns,
+        journal,
+        stream: 1_000,
+    }
+}
+
+/// Statements of 27, 15 and 15 bytes.
+const SCHEMAS: &str = "CONNECT TO 'D' USER 'ALICE'
+CREATE SCHEMA S
+CREATE SCHEMA T
+CREATE SCHEMA S";
+
+const TABLES: &str = "CONNECT TO 'D' USER 'ALICE'
+CREATE SCHEMA ALICE
+CREATE TABLE T (A INTEGER)
+CREATE TABLE U (A INTEGER, B DATE)
+DROP TABLE T";
+
+/// The most items, columns and bytes of a journal, where each statement takes 64 and its text, with a script and its replies.
+const FULL: [(u32, u32, u64, &str, &str); 6] = [
+    (99, 99, 999, SCHEMAS, "OK\nOK\nOK\nERR 10 42000 S\n"),
+    (
+        99,
+        99,
+        169,
+        SCHEMAS,
+        "OK\nERR 20 Y0020 91\nERR 20 Y0020 91\nERR 20 Y0020 91\n",
+    ),
+    (
+        99,
+        99,
+        170,
+        SCHEMAS,
+        "OK\nOK\nERR 20 Y0020 170\nERR 20 Y0020 170\n",
+    ),
+    (
+        2,
+        99,
+        999,
+        SCHEMAS,
+        "OK\nOK\nERR 19 Y0019 3\nERR 10 42000 S\n",
+    ),
+    (99, 1, 999, TABLES, "OK\nOK\nOK\nERR 19 Y0019 2\nOK\n"),
+    (99, 2, 999, TABLES, "OK\nOK\nOK\nOK\nOK\n"),
+];
+
+#[test]
+fn books_are_full(rt: HostRuntime) -> Result<(), Fail> {
+    for (items, columns, journal, script, replies) in FULL {
+        let limits = limits(items, columns, journal);
+        let sink = replies_of::<Brand>(rt.alloc(), Blank::new(1), limits, script)?;
+        assert_eq!(rt;
+            sink.bytes(),
+            replies.as_bytes(),
+            "{items} {columns} {journal}"
+        );
+    }
+    Ok(())
+}
+
+/// The words `script`, `--users` and a list.
+fn command_line(alloc: Global, list: &str) -> Result<Vec<String>, AllocError> {
+    ["script", "--users", list]
+        .iter()
+        .map(|word| String::from_str(alloc, word))
+        .try_collect(alloc)
+}
+
+/// A source of two pieces, whose takes with this number fails.
+fn source_of(alloc: Global, pieces: [&str; 2], failing: u64) -> Result<MemSource, AllocError> {
+    let mut all = Vec::new(alloc);
+    for piece in pieces {
+        all.push(Vec::from_slice(alloc, piece.as_bytes())?)?;
+    }
+    let mut fails = Vec::new(alloc);
+    fails.push(failing)?;
+    Ok(MemSource::new(all, fails))
+}
+
+const CONNECT: &str = "CONNECT TO 'D' USER 'A';";
+
+/// Two pieces of input, the take and the put that fail, how much room the output has, and what is written.
+const RUNS: [([&str; 2], u64, u64, usize, &str, Status); 6] = [
+    (
+        [CONNECT, " CREATE SCHEMA S;"],
+        9,
+        9,
+        99,
+        "OK\nOK\n",
+        Status::Done,
+    ),
+    (
+        [CONNECT, " CREATE SCHEMA S;"],
+        1,
+        9,
+        99,
+        "",
+        Status::ReadFault,
+    ),
+    (
+        [CONNECT, " CREATE SCHEMA S;"],
+        2,
+        9,
+        99,
+        "OK\n",
+        Status::ReadFault,
+    ),
+    (
+        [CONNECT, " CREATE SCHEMA S;"],
+        3,
+        9,
+        99,
+        "OK\nOK\n",
+        Status::ReadFault,
+    ),
+    (
+        [CONNECT, " CREATE SCHEMA S;"],
+        9,
+        3,
+        99,
+        "OK\n",
+        Status::WriteFault,
+    ),
+    (
+        [CONNECT, " CREATE SCHEMA S;"],
+        9,
+        9,
+        4,
+        "OK\nO",
+        Status::WriteFault,
+    ),
+];
+
+#[test]
+fn faults_end_a_script(rt: HostRuntime) -> Result<(), Fail> {
+    let alloc = rt.alloc();
+    let words = command_line(alloc, "A")?;
+    for (pieces, take, put, room, output, status) in RUNS {
+        let mut source = source_of(alloc, pieces, take)?;
+        let mut sink = MemSink::new(alloc, 2, room, [put].to_vec(alloc)?)?;
+        let ended = top(alloc, &words, &mut source, &mut sink);
+        assert_eq!(rt;
+            (ended, sink.bytes()),
+            (status, output.as_bytes()),
+            "{take} {put} {room}"
+        );
+    }
+    Ok(())
+}
