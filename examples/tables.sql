@@ -1,3 +1,4 @@
+-- users: ALICE,BOB
 -- Two users: ALICE has a table, and lets BOB refer to it and read it.
 CONNECT TO 'D' AS 'B' USER 'BOB';
 CREATE SCHEMA BOB;
