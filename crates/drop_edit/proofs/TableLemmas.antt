@@ -24,7 +24,7 @@ use Rattle.cat_items.specs.Good.{IsGood}
 use Rattle.cat_items.specs.Reach.{Has}
 use Rattle.cat_items.specs.Rights.{path_of, IsBaseTable, IsObject, IsTable}
 use Rattle.cat_items.specs.Shape.{tables, IsColumnOf}
-use Rattle.grant_chain.proofs.MeetingLemmas.{same_object}
+use Rattle.role_graph.proofs.MeetingLemmas.{same_object}
 use Rattle.edit_laws.specs.Columns.{KeepsViewColumns}
 use Rattle.edit_laws.specs.Kinds.{IsKept, taking}
 use Rattle.edit_laws.proofs.Fits.{edited_of_taking, fit_of_taking, held_gone, grantable_gone}

@@ -12,7 +12,7 @@ use Rattle.cat_items.specs.Ranges.{IsRange, IsUser, IsView, IsObjectIn}
 use Rattle.cat_items.specs.Reach.{Has}
 use Rattle.cat_items.specs.Rights.{path_of, IsSchema, IsBaseTable, IsTable, IsColumn}
 use Rattle.cat_items.specs.Shape.{IsColumnOf}
-use Rattle.grant_chain.proofs.MeetingLemmas.{same_object, column_there}
+use Rattle.role_graph.proofs.MeetingLemmas.{same_object, column_there}
 use Rattle.edit_rules.specs.Names.{IsConstraint}
 
 -- a range has a place exactly where an item is so

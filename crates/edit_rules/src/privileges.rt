@@ -8,8 +8,7 @@ ghost use Rattle.edit_rules.specs.First.{HasPassed};
 ghost use Rattle.edit_rules.specs.Privileges.{IsBehind, IsLeastUnmet, no_privilege};
 
 use cat_items::{Catalogue, EditError, Need, Refusal};
-use grant_chain::met_by;
-use role_graph::{Actor, Walk};
+use role_graph::{Actor, Walk, met_by};
 use sql_tree::{Action, Items, Name, Path};
 use std::alloc::{AllocError, Global};
 

@@ -10,7 +10,7 @@ use Rattle.cat_items.specs.Ranges.{IsView, IsDomainOf, IsRoutineOf}
 use Rattle.cat_items.specs.Reach.{Has}
 use Rattle.cat_items.specs.Rights.{path_of, IsBaseTable}
 use Rattle.cat_items.specs.SystemRights.{IsSystemRow}
-use Rattle.grant_chain.proofs.MeetingLemmas.{same_object}
+use Rattle.role_graph.proofs.MeetingLemmas.{same_object}
 
 -- the object of a need
 pub row_there : (grantable : Bool) (s : List Item) (schema : List ℕ) (owner : Auth) (need : Need) (o : Object) → need.on ≡ path_of o → (y : Item) → IsSystemRow grantable s schema owner need y

@@ -1,14 +1,11 @@
-//! Which descriptors stand: whether a need is met, whether a descriptor is supported by others, and which
-//! descriptors of a catalogue survive by finite chains of support.
+//! Which descriptors stand: whether a descriptor is supported by others, and which descriptors of a catalogue
+//! survive by finite chains of support. Whether a need is met is handed on.
 #![tactic(auto)]
 
-mod loops;
-mod meeting;
 mod rounds;
-mod standing;
 mod support;
 mod system;
 
-pub use meeting::{Needs, met, met_by};
+pub use role_graph::{Needs, met, met_by};
 pub use rounds::survivors;
 pub use support::supported;

@@ -11,17 +11,16 @@ ghost use Rattle.cat_items.specs.SystemRights.{security_of};
 ghost use Rattle.role_graph.specs.Marked.{AreMarksOf, counted, marked};
 ghost use Rattle.role_graph.specs.Roles.{IsRoomFor};
 
-use crate::loops::{Condition, Matches, any_in, any_match, any_met};
-use crate::meeting::{Needs, has_admin, met_by, owner_meets};
-use crate::standing::{
-    all_stand, authorization_stands, domain_stands, has_columns, stands, table_stands,
-};
 use crate::system::{security, system_grants};
 use cat_items::{
     Auth, Catalogue, Check, Column, DomainCheck, Foreign, Item, Key, Marks, NeedKey, Part, PathKey,
     Right, RoleGrant, Routine,
 };
-use role_graph::{Actor, Walk};
+use role_graph::{
+    Actor, Condition, Matches, Needs, Walk, all_stand, any_in, any_match, any_met,
+    authorization_stands, domain_stands, has_admin, has_columns, met_by, owner_meets, stands,
+    table_stands,
+};
 use sql_tree::{Action, Items, Name, Object, Security};
 
 /// Whether what a column of a schema rests on counts, where it is based on a domain.

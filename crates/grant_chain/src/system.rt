@@ -11,13 +11,10 @@ ghost use Rattle.cat_items.specs.SystemRights.{IsRoutineRow, IsSystemRow, IsTabl
 ghost use Rattle.role_graph.specs.Marked.{AreMarksOf, counted};
 ghost use Rattle.role_graph.specs.Roles.{IsRoomFor};
 
-use crate::loops::{Condition, any_met};
-use crate::meeting::{met_by, met_with_option};
-use crate::standing::object_at;
 use cat_items::{
     Auth, Catalogue, Item, Marks, Need, NeedKey, ObjectKey, Part, PathKey, Right, Routine, View,
 };
-use role_graph::{Actor, Walk};
+use role_graph::{Actor, Condition, Walk, any_met, met_by, met_with_option, object_at};
 use sql_tree::{Action, Body, Name, Object, Security};
 
 /// With whose rights a routine runs.

@@ -11,8 +11,7 @@ ghost use Rattle.grant_edit.specs.Grants as spec;
 
 use crate::named::on_column;
 use cat_items::{Catalogue, Edit, Item, Need, NeedKey, PathKey, columns_of};
-use grant_chain::met_by;
-use role_graph::{Actor, Walk};
+use role_graph::{Actor, Walk, met_by};
 use sql_tree::{Action, Name, Object};
 use std::alloc::{AllocError, Global};
 

@@ -1,5 +1,8 @@
+pub mod AllLemmas
 pub mod CycleLemmas
 pub mod Growths
+pub mod LoopLemmas
 pub mod MarkedLemmas
+pub mod MeetingLemmas
 pub mod NameLemmas
 pub mod TrailLemmas

@@ -1,5 +1,7 @@
 pub mod Actors
 pub mod Cycles
+pub mod Loops
 pub mod Marked
+pub mod Needs
 pub mod Roles
 pub mod Trails

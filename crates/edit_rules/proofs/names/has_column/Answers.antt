@@ -2,7 +2,7 @@ use Rattle.std.proofs.Common.{None, refl, arith}
 use Rattle.std.proofs.lemmas.Bool.{false≢true}
 use Rattle.cat_items.specs.Rights.{path_of, IsColumn}
 use Rattle.cat_items.specs.Shape.{IsColumnOf}
-use Rattle.grant_chain.proofs.LoopLemmas.{some_there, not_there, none_from, none_more, none_there, has_there}
+use Rattle.role_graph.proofs.LoopLemmas.{some_there, not_there, none_from, none_more, none_there, has_there}
 use Rattle.edit_rules.proofs.NameLemmas.{column_lies}
 use Rattle.edit_rules.proofs.names.has_column.Goals as goal
 

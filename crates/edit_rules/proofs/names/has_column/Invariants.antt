@@ -1,6 +1,6 @@
 use Rattle.std.proofs.Common.{None}
 use Rattle.cat_items.specs.Rights.{path_of, IsColumn}
-use Rattle.grant_chain.proofs.LoopLemmas.{NoneFrom}
+use Rattle.role_graph.proofs.LoopLemmas.{NoneFrom}
 use Rattle.edit_rules.proofs.names.has_column.Given as goal
 
 abbrev pub invariant-loop-at : goal.invariant-loop-at

@@ -1,6 +1,6 @@
 use Rattle.std.proofs.Common.{None, refl, arith}
 use Rattle.std.proofs.lemmas.Bool.{false≢true}
-use Rattle.grant_chain.proofs.LoopLemmas.{some_there, not_there, none_from, none_more, none_there}
+use Rattle.role_graph.proofs.LoopLemmas.{some_there, not_there, none_from, none_more, none_there}
 use Rattle.edit_rules.specs.Names.{IsConstraint}
 use Rattle.edit_rules.proofs.names.is_constraint_of.Goals as goal
 

@@ -1,5 +1,5 @@
 use Rattle.std.proofs.Common.{None}
-use Rattle.grant_chain.proofs.LoopLemmas.{NoneFrom}
+use Rattle.role_graph.proofs.LoopLemmas.{NoneFrom}
 use Rattle.edit_rules.specs.Names.{IsConstraint}
 use Rattle.edit_rules.proofs.names.is_constraint_of.Given as goal
 

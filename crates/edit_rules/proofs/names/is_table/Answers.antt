@@ -2,7 +2,7 @@ use Rattle.std.proofs.Common.{◌↔◌, IsTrue, subst}
 use Rattle.std.proofs.lemmas.Bool.{both_ways}
 use Rattle.cat_items.specs.Ranges.{IsView}
 use Rattle.cat_items.specs.Reach.{Has}
-use Rattle.grant_chain.proofs.LoopLemmas.{join}
+use Rattle.role_graph.proofs.LoopLemmas.{join}
 use Rattle.edit_rules.proofs.NameLemmas.{base_table_there, view_there}
 use Rattle.edit_rules.proofs.names.is_table.Goals as goal
 

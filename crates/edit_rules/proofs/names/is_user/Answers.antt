@@ -1,4 +1,4 @@
-use Rattle.grant_chain.proofs.LoopLemmas.{join}
+use Rattle.role_graph.proofs.LoopLemmas.{join}
 use Rattle.edit_rules.proofs.NameLemmas.{user_there}
 use Rattle.edit_rules.proofs.names.is_user.Goals as goal
 

@@ -1,6 +1,6 @@
 use Rattle.std.proofs.Common.{refl, inl}
 use Rattle.std.proofs.lemmas.Bool.{false≢true}
-use Rattle.grant_chain.proofs.LoopLemmas.{join}
+use Rattle.role_graph.proofs.LoopLemmas.{join}
 use Rattle.edit_rules.proofs.OwnerLemmas.{found_role, acts_by_role}
 use Rattle.edit_rules.proofs.owners.acts_for.Goals as goal
 

@@ -6,7 +6,7 @@ use Rattle.cat_items.specs.declared.item.Item.TheVariants as item
 use Rattle.cat_items.specs.Reach.{Has}
 use Rattle.cat_items.specs.Supported.{IsRoleAuth, RoleGrantRests, Supported}
 use Rattle.role_graph.specs.Marked.{marked}
-use Rattle.grant_chain.proofs.LoopLemmas.{at_item}
+use Rattle.role_graph.proofs.LoopLemmas.{at_item}
 use Rattle.grant_chain.proofs.support.supported.Goals as goal
 
 pub returns-in-Key-clause-answer : goal.returns-in-Key-clause-answer

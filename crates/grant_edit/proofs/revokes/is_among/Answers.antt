@@ -3,7 +3,7 @@ use Rattle.std.specs.List.{All}
 use Rattle.std.proofs.lemmas.Bool.{false≢true}
 use Rattle.std.proofs.lemmas.List.Elements.{All-contains}
 use Rattle.sql_tree.specs.declared.rights.Grantee.{Grantee}
-use Rattle.grant_chain.proofs.AllLemmas.{all_done}
+use Rattle.role_graph.proofs.AllLemmas.{all_done}
 use Rattle.grant_edit.specs.Named.{grantee_auth}
 use Rattle.grant_edit.proofs.Lists.{contains_map}
 use Rattle.grant_edit.proofs.revokes.is_among.Goals as goal

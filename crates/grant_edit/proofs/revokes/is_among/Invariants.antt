@@ -1,5 +1,5 @@
 use Rattle.std.proofs.Common.{◌≡◌}
-use Rattle.grant_chain.proofs.AllLemmas.{AllBelow}
+use Rattle.role_graph.proofs.AllLemmas.{AllBelow}
 use Rattle.grant_edit.specs.Named.{grantee_auth}
 use Rattle.grant_edit.proofs.revokes.is_among.Given as goal
 

@@ -1,4 +1,4 @@
-use Rattle.grant_chain.proofs.AllLemmas.{AllBelow}
+use Rattle.role_graph.proofs.AllLemmas.{AllBelow}
 use Rattle.grant_edit.specs.Revokes.{Covers}
 use Rattle.grant_edit.proofs.revokes.is_revoked.Given as goal
 

@@ -1,7 +1,7 @@
 use Rattle.std.proofs.Common.{◌↔◌, ◌<◌, IsTrue, rules}
 use Rattle.std.specs.Prelude.{not}
 use Rattle.cat_items.specs.Ranges.{IsIn}
-use Rattle.grant_chain.proofs.LoopLemmas.{join}
+use Rattle.role_graph.proofs.LoopLemmas.{join}
 use Rattle.edit_rules.proofs.NameLemmas.{in_range}
 use Rattle.grant_edit.proofs.targets.any_in.Goals as goal
 

@@ -1,5 +1,5 @@
 use Rattle.std.proofs.Common.{None}
-use Rattle.grant_chain.proofs.LoopLemmas.{NoneFrom}
+use Rattle.role_graph.proofs.LoopLemmas.{NoneFrom}
 use Rattle.grant_edit.specs.Targets.{IsRoutineOfKind}
 use Rattle.grant_edit.proofs.targets.has_routine.Given as goal
 

@@ -1,7 +1,7 @@
 use Rattle.std.proofs.Common.{None, refl, arith}
 use Rattle.std.proofs.lemmas.Bool.{false≢true}
 use Rattle.cat_items.specs.Shape.{IsColumnOf}
-use Rattle.grant_chain.proofs.LoopLemmas.{some_there, not_there, none_from, none_more, none_there, has_there}
+use Rattle.role_graph.proofs.LoopLemmas.{some_there, not_there, none_from, none_more, none_there, has_there}
 use Rattle.table_rules.proofs.ClassLemmas.{IsOldOfAnother, old_lies}
 use Rattle.table_rules.proofs.types.has_old_of_another.Goals as goal
 

@@ -1,5 +1,5 @@
 use Rattle.std.proofs.Common.{None}
-use Rattle.grant_chain.proofs.LoopLemmas.{NoneFrom}
+use Rattle.role_graph.proofs.LoopLemmas.{NoneFrom}
 use Rattle.table_rules.proofs.ClassLemmas.{IsOldOfAnother}
 use Rattle.table_rules.proofs.types.has_old_of_another.Given as goal
 
