@@ -1,5 +1,6 @@
 -- Reading conditions.
 use Rattle.std.specs.Prelude.{ℕ, Bool, true, false, List, Option}
+use Rattle.sql_names.specs.NameBytes.{NameBytes}
 use Rattle.sql_tree.specs.declared.expr.Expr.{Expr}
 use Rattle.sql_tree.specs.declared.table.DomainCheck.{DomainCheck}
 use Rattle.sql_spelling.specs.declared.kind.Kind.{Kind}
@@ -16,7 +17,7 @@ check value m = do
   expect k.RightParen
   pure e
 
-unfoldable pub constraint_name : Parser (Option (List ℕ))
+unfoldable pub constraint_name : Parser (Option NameBytes)
 constraint_name = optional k.Constraint identifier
 
 unfoldable pub domain_check : Parser DomainCheck

@@ -1,5 +1,6 @@
 -- Reading tables.
 use Rattle.std.specs.Prelude.{ℕ, Bool, true, false, List, Some, None, if◌then◌else◌}
+use Rattle.sql_names.specs.NameBytes.{NameBytes}
 use Rattle.sql_tree.specs.declared.table.ColumnConstraint.{ColumnConstraint}
 use Rattle.sql_tree.specs.declared.table.ColumnConstraint.TheVariants as constraints
 use Rattle.sql_tree.specs.declared.table.ColumnDefinition.{ColumnDefinition}
@@ -127,7 +128,7 @@ column_options m = repeated begins_option (column_option m)
 unfoldable pub column_type : ℕ → Parser ColumnType
 column_type m = λ ws. if sees_name ws then (bases.Domain <$> object_name) ws else (bases.Type <$> sql_type m) ws
 
-unfoldable pub fitting_options : List ℕ → ColumnType → List ColumnOption → Parser ColumnDefinition
+unfoldable pub fitting_options : NameBytes → ColumnType → List ColumnOption → Parser ColumnDefinition
 fitting_options n t os = λ ws. if has_one_default os then Some (record { column = n; sort = t; options = os }, ws) else None
 
 unfoldable pub column_definition : ℕ → Parser ColumnDefinition
@@ -137,7 +138,7 @@ column_definition m = do
   os ← column_options m
   fitting_options n t os
 
-unfoldable pub column_list : Parser (List (List ℕ))
+unfoldable pub column_list : Parser (List NameBytes)
 column_list = do
   expect k.LeftParen
   ns ← identifiers

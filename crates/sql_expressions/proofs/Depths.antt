@@ -7,8 +7,8 @@ use Rattle.sql_words.specs.Kinds.{kind_of}
 use Rattle.sql_spelling.specs.declared.kind.Kind.{Kind}
 use Rattle.sql_spelling.specs.declared.kind.Kind.TheVariants as k
 use Rattle.sql_words.specs.declared.word.Word.{Word}
-use Rattle.sql_phrases.specs.Shapes.{Spelled, Token, token, Spells, spells, Separated, one, more, Repeated, no_more, again, Optional, left_out, said, Marked, absent, present}
-use Rattle.sql_phrases.specs.NameRules.{IsIdentifier, identifier, IsIdentifiers}
+use Rattle.sql_phrases.specs.Shapes.{Spelled, Token, token, SpellsText, spells, Separated, one, more, Repeated, no_more, again, Optional, left_out, said, Marked, absent, present}
+use Rattle.sql_phrases.specs.NameRules.{SpellsIdentifier, identifier, SpellsIdentifiers}
 use Rattle.sql_expressions.specs.Depth.{open_after, open_behind, most_open}
 
 behind_append : (n : ℕ) (f g : List Word) → open_behind n (f ++ g) ≡ open_behind (open_behind n f) g
@@ -51,7 +51,7 @@ peak_word w rest keeps = record { front = w ∷ []; splits = refl; closes = keep
 pub peak_token : {by : Kind} {ws rest : List Word} → Token by ws rest → ((n : ℕ) → open_after by n ≡ n) → Peak 0 ws rest
 peak_token (token {w = w} {rest = rest} h) keeps = peak_word w rest (λ n. ap (λ kind. open_after kind n) h ∙ keeps n)
 
-pub peak_spelled : {by : Kind} {t : List ℕ} {ws rest : List Word} → Spells by t ws rest → ((n : ℕ) → open_after by n ≡ n) → Peak 0 ws rest
+pub peak_spelled : {by : Kind} {t : List ℕ} {ws rest : List Word} → SpellsText by t ws rest → ((n : ℕ) → open_after by n ≡ n) → Peak 0 ws rest
 peak_spelled (spells {w = w} {rest = rest} h) keeps = peak_word w rest (λ n. ap (λ kind. open_after kind n) h ∙ keeps n)
 
 pub peak_marked : {by : Kind} {said : Bool} {ws rest : List Word} → Marked by said ws rest → ((n : ℕ) → open_after by n ≡ n) → Peak 0 ws rest
@@ -67,7 +67,7 @@ name_keeps k.RightParen e n = cc
 name_keeps k.End e n = cc
 name_keeps _ e n = refl
 
-pub peak_identifier : {t : List ℕ} {ws rest : List Word} → IsIdentifier t ws rest → Peak 0 ws rest
+pub peak_identifier : {t : List ℕ} {ws rest : List Word} → SpellsIdentifier t ws rest → Peak 0 ws rest
 peak_identifier (identifier {w = w} {rest = rest} h is) = peak_word w rest (name_keeps (kind_of w) h)
 
 module _ {A : Type 0} (R : Spelled A) (f : (x : A) (ws rest : List Word) → R x ws rest → Peak 0 ws rest) where
@@ -79,8 +79,8 @@ module _ {A : Type 0} (R : Spelled A) (f : (x : A) (ws rest : List Word) → R x
   peak_optional keeps left_out = peak_none
   peak_optional keeps {rest = rest} (said {x = x} {a = a} t r) = flat_then (peak_token t keeps) (f x a rest r)
 
-pub peak_identifiers : {ns : List (List ℕ)} {ws rest : List Word} → IsIdentifiers ns ws rest → Peak 0 ws rest
-peak_identifiers s = peak_separated IsIdentifier (λ n ws rest i. peak_identifier i) (λ n. refl) s
+pub peak_identifiers : {ns : List (List ℕ)} {ws rest : List Word} → SpellsIdentifiers ns ws rest → Peak 0 ws rest
+peak_identifiers s = peak_separated SpellsIdentifier (λ n ws rest i. peak_identifier i) (λ n. refl) s
 
 -- a bracket, what stands in it, and its end
 pub peak_bracket : {first last : Kind} {c : ℕ} {ws a b rest : List Word} → Token first ws a → Peak c a b → Token last b rest → ((n : ℕ) → open_after first n ≡ suc n)

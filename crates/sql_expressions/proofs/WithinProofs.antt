@@ -9,7 +9,7 @@ use Rattle.sql_phrases.specs.Reading.{peek}
 use Rattle.sql_phrases.specs.Shapes.{Spelled}
 use Rattle.sql_phrases.specs.Parsers.{Parser}
 use Rattle.sql_expressions.specs.QueryParsers.{sees_qualified_star}
-use Rattle.sql_expressions.specs.ExpressionRules.{IsExprWithin, IsQueryWithin}
+use Rattle.sql_expressions.specs.ExpressionRules.{SpellsExprWithin, SpellsQueryWithin}
 use Rattle.sql_expressions.specs.ExpressionParsers.{expr_within, query_within}
 use Rattle.sql_expressions.specs.Laws.{ReadsOnlySpelled, ReadsAllSpelled, IsUnambiguous}
 use Rattle.sql_phrases.proofs.Lists.{gives_none, Parses}
@@ -23,8 +23,8 @@ record Reading (whole : Parser Expr) (Whole : Spelled Expr) : Type 0 where
   begun : (e : Expr) (ws rest : List Word) → Whole e ws rest → 0 < opens (peek ws)
   never_star : (ws : List Word) → sees_qualified_star ws ≡ true → whole ws ≡ None
 
-reading : (value : Bool) (n : ℕ) → Reading (expr_within value n) (IsExprWithin value n)
-unfolding expr_within IsExprWithin
+reading : (value : Bool) (n : ℕ) → Reading (expr_within value n) (SpellsExprWithin value n)
+unfolding expr_within SpellsExprWithin
 reading value zero = record {
   parses = record { sound = λ ws. gives_none; complete = λ e ws rest r s. absurd r; shorter = λ e ws rest r. absurd r };
   begun = λ e ws rest r. absurd r;
@@ -33,29 +33,29 @@ reading value zero = record {
 reading value (suc n) =
     let r = reading value n in
     record {
-      parses = expr_parses (expr_within value n) (IsExprWithin value n) r.parses r.begun r.never_star value n;
-      begun = expr_begins (expr_within value n) (IsExprWithin value n) r.parses r.begun r.never_star value n;
-      never_star = expr_none (expr_within value n) (IsExprWithin value n) r.parses r.begun r.never_star value n;
+      parses = expr_parses (expr_within value n) (SpellsExprWithin value n) r.parses r.begun r.never_star value n;
+      begun = expr_begins (expr_within value n) (SpellsExprWithin value n) r.parses r.begun r.never_star value n;
+      never_star = expr_none (expr_within value n) (SpellsExprWithin value n) r.parses r.begun r.never_star value n;
     }
 
 -- an expression ends before a word that doesn't go on as tightly as OR
-pub expr_within_parses : (value : Bool) (n : ℕ) → Parses binds (expr_within value n) (IsExprWithin value n) 7
+pub expr_within_parses : (value : Bool) (n : ℕ) → Parses binds (expr_within value n) (SpellsExprWithin value n) 7
 expr_within_parses value n = (reading value n).parses
 
-pub expr_within_begins : (value : Bool) (n : ℕ) (e : Expr) (ws rest : List Word) → IsExprWithin value n e ws rest → 0 < opens (peek ws)
+pub expr_within_begins : (value : Bool) (n : ℕ) (e : Expr) (ws rest : List Word) → SpellsExprWithin value n e ws rest → 0 < opens (peek ws)
 expr_within_begins value n = (reading value n).begun
 
 -- a query ends before a word that doesn't go on as tightly as UNION
-pub query_within_parses : (value : Bool) (n : ℕ) → Parses binds (query_within value n) (IsQueryWithin value n) 1
-unfolding query_within IsQueryWithin
+pub query_within_parses : (value : Bool) (n : ℕ) → Parses binds (query_within value n) (SpellsQueryWithin value n) 1
+unfolding query_within SpellsQueryWithin
 query_within_parses value zero = record { sound = λ ws. gives_none; complete = λ q ws rest r s. absurd r; shorter = λ q ws rest r. absurd r }
-query_within_parses value (suc n) = let r = reading value (suc n) in query_parses (expr_within value (suc n)) (IsExprWithin value (suc n)) r.parses r.begun r.never_star
+query_within_parses value (suc n) = let r = reading value (suc n) in query_parses (expr_within value (suc n)) (SpellsExprWithin value (suc n)) r.parses r.begun r.never_star
 
-pub query_within_begins : (value : Bool) (n : ℕ) (q : Query) (ws rest : List Word) → IsQueryWithin value n q ws rest → peek ws ≡ k.Select
-unfolding IsQueryWithin
+pub query_within_begins : (value : Bool) (n : ℕ) (q : Query) (ws rest : List Word) → SpellsQueryWithin value n q ws rest → peek ws ≡ k.Select
+unfolding SpellsQueryWithin
 query_within_begins value zero q ws rest r = absurd r
 query_within_begins value (suc n) q ws rest r =
-    let o = reading value (suc n) in query_begins (expr_within value (suc n)) (IsExprWithin value (suc n)) o.parses o.begun o.never_star r
+    let o = reading value (suc n) in query_begins (expr_within value (suc n)) (SpellsExprWithin value (suc n)) o.parses o.begun o.never_star r
 
 -- ---- what is read to the end of the words
 

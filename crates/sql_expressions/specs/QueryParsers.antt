@@ -1,5 +1,6 @@
 -- Reading queries.
-use Rattle.std.specs.Prelude.{ℕ, Bool, true, false, ◌&&◌, List, [], Option, Some, None, if◌then◌else◌}
+use Rattle.std.specs.Prelude.{Bool, true, false, ◌&&◌, List, [], Option, Some, None, if◌then◌else◌}
+use Rattle.sql_names.specs.NameBytes.{NameBytes}
 use Rattle.sql_names.specs.declared.column.ObjectName.{ObjectName}
 use Rattle.sql_names.specs.declared.column.ObjectName.TheVariants as objects
 use Rattle.sql_names.specs.declared.column.Reference.{Reference}
@@ -32,7 +33,7 @@ reference_of (objects.Qualified o) = references.Qualified o.schema o.name
 unfoldable pub reference : Parser Reference
 reference = reference_of <$> object_name
 
-unfoldable pub alias : Parser (Option (List ℕ))
+unfoldable pub alias : Parser (Option NameBytes)
 alias = do
   is_as ← eat k.As
   if is_as then Some <$> identifier else (λ ws. if sees_name ws then (Some <$> identifier) ws else Some (None, ws))

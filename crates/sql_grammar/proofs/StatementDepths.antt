@@ -24,44 +24,44 @@ use Rattle.sql_spelling.specs.declared.kind.Kind.TheVariants as k
 use Rattle.sql_words.specs.declared.word.Word.{Word}
 use Rattle.sql_phrases.specs.Shapes.{Token, Separated, Optional}
 use Rattle.sql_phrases.specs.NameRules as names
-use Rattle.sql_phrases.specs.NameRules.{IsIdentifier, IsLiteralName, IsObjectName}
-use Rattle.sql_phrases.specs.TypeRules.{IsDefault}
+use Rattle.sql_phrases.specs.NameRules.{SpellsIdentifier, SpellsLiteralName, SpellsObjectName}
+use Rattle.sql_phrases.specs.TypeRules.{SpellsDefault}
 use Rattle.sql_expressions.specs.Depth.{open_after, most_open}
 use Rattle.sql_expressions.proofs.Depths.{Peak, peak_none, flat_then, peak_token, peak_spelled, peak_marked, peak_identifier, peak_identifiers, peak_separated, peak_optional, Deep, flat, deep_then, deep_map, deep_more, deep_begin, deep_token, deep_separated, deep_repeated}
 use Rattle.sql_expressions.proofs.DepthProofs.{peak_object_name, deep_type}
-use Rattle.sql_definitions.specs.CheckRules.{IsDomainCheck}
-use Rattle.sql_definitions.specs.BodyRules.{IsActs}
+use Rattle.sql_definitions.specs.CheckRules.{SpellsDomainCheck}
+use Rattle.sql_definitions.specs.BodyRules.{SpellsActs}
 use Rattle.sql_definitions.proofs.DefinitionDepths.{peak_default, peak_language, deep_expr, deep_whole_query, deep_columns, deep_check, deep_domain_check, deep_column_definition, deep_table_constraint, deep_table_elements, deep_acts, deep_params}
 use Rattle.sql_grammar.specs.AlterRules as alters
-use Rattle.sql_grammar.specs.AlterRules.{IsColumnName, IsAlterTableAction, IsAlterDomainAction}
+use Rattle.sql_grammar.specs.AlterRules.{SpellsColumnName, SpellsAlterTableAction, SpellsAlterDomainAction}
 use Rattle.sql_grammar.specs.InformationRules as information
-use Rattle.sql_grammar.specs.InformationRules.{IsInfoValue, IsInfoTest, IsInfoTests, IsInfoColumns, IsInfoQuery}
+use Rattle.sql_grammar.specs.InformationRules.{SpellsInfoValue, SpellsInfoTest, SpellsInfoTests, SpellsInfoColumns, SpellsInfoQuery}
 use Rattle.sql_grammar.specs.RightsRules as rights
-use Rattle.sql_grammar.specs.RightsRules.{IsBehaviour, IsGrantor, IsGrantorAfter, IsGrantedBy, IsGrantee, IsPrivilege, IsPrivileges, IsTarget, IsPrivilegesOn, IsWithOption, IsOptionFor}
+use Rattle.sql_grammar.specs.RightsRules.{SpellsBehaviour, SpellsGrantor, SpellsGrantorAfter, SpellsGrantedBy, SpellsGrantee, SpellsPrivilege, SpellsPrivileges, SpellsTarget, SpellsPrivilegesOn, SpellsWithOption, SpellsOptionFor}
 use Rattle.sql_grammar.specs.StatementRules as rules
-use Rattle.sql_grammar.specs.StatementRules.{IsRoleChoice, IsSchemaNameClause, IsDropKind, IsStatement}
+use Rattle.sql_grammar.specs.StatementRules.{SpellsRoleChoice, SpellsSchemaNameClause, SpellsDropKind, SpellsStatement}
 
 -- ---- what opens no bracket
 
 two : {x y : Kind} {ws a rest : List Word} → Token x ws a → Token y a rest → ((n : ℕ) → open_after x n ≡ n) → ((n : ℕ) → open_after y n ≡ n) → Peak 0 ws rest
 two t u keeps keeps' = flat_then (peak_token t keeps) (peak_token u keeps')
 
-peak_literal_name : {n : List ℕ} {ws rest : List Word} → IsLiteralName n ws rest → Peak 0 ws rest
+peak_literal_name : {n : List ℕ} {ws rest : List Word} → SpellsLiteralName n ws rest → Peak 0 ws rest
 peak_literal_name (names.literal_name s is) = peak_spelled s (λ n. refl)
 
-peak_default_clause : {v : Option Default} {ws rest : List Word} → Optional k.Default IsDefault v ws rest → Peak 0 ws rest
-peak_default_clause o = peak_optional IsDefault (λ v ws rest i. peak_default i) (λ n. refl) o
+peak_default_clause : {v : Option Default} {ws rest : List Word} → Optional k.Default SpellsDefault v ws rest → Peak 0 ws rest
+peak_default_clause o = peak_optional SpellsDefault (λ v ws rest i. peak_default i) (λ n. refl) o
 
-peak_role_choice : {c : RoleChoice} {ws rest : List Word} → IsRoleChoice c ws rest → Peak 0 ws rest
+peak_role_choice : {c : RoleChoice} {ws rest : List Word} → SpellsRoleChoice c ws rest → Peak 0 ws rest
 peak_role_choice (rules.by_literal i) = peak_literal_name i
 peak_role_choice (rules.by_name i) = peak_identifier i
 peak_role_choice (rules.no_role t) = peak_token t (λ n. refl)
 
-peak_schema : {s : SchemaNameClause} {ws rest : List Word} → IsSchemaNameClause s ws rest → Peak 0 ws rest
-peak_schema (rules.named i o) = flat_then (peak_identifier i) (peak_optional IsIdentifier (λ n ws rest i. peak_identifier i) (λ n. refl) o)
+peak_schema : {s : SchemaNameClause} {ws rest : List Word} → SpellsSchemaNameClause s ws rest → Peak 0 ws rest
+peak_schema (rules.named i o) = flat_then (peak_identifier i) (peak_optional SpellsIdentifier (λ n ws rest i. peak_identifier i) (λ n. refl) o)
 peak_schema (rules.authorization t i) = flat_then (peak_token t (λ n. refl)) (peak_identifier i)
 
-peak_drop_kind : {d : DropKind} {ws rest : List Word} → IsDropKind d ws rest → Peak 0 ws rest
+peak_drop_kind : {d : DropKind} {ws rest : List Word} → SpellsDropKind d ws rest → Peak 0 ws rest
 peak_drop_kind (rules.table t) = peak_token t (λ n. refl)
 peak_drop_kind (rules.view t) = peak_token t (λ n. refl)
 peak_drop_kind (rules.domain t) = peak_token t (λ n. refl)
@@ -70,33 +70,33 @@ peak_drop_kind (rules.function t) = peak_token t (λ n. refl)
 peak_drop_kind (rules.procedure t) = peak_token t (λ n. refl)
 peak_drop_kind (rules.routine t) = peak_token t (λ n. refl)
 
-peak_behaviour : {b : Behaviour} {ws rest : List Word} → IsBehaviour b ws rest → Peak 0 ws rest
+peak_behaviour : {b : Behaviour} {ws rest : List Word} → SpellsBehaviour b ws rest → Peak 0 ws rest
 peak_behaviour rights.unsaid = peak_none
 peak_behaviour (rights.restrict t) = peak_token t (λ n. refl)
 peak_behaviour (rights.cascade t) = peak_token t (λ n. refl)
 
-peak_grantor : {g : Grantor} {ws rest : List Word} → IsGrantor g ws rest → Peak 0 ws rest
+peak_grantor : {g : Grantor} {ws rest : List Word} → SpellsGrantor g ws rest → Peak 0 ws rest
 peak_grantor (rights.current_user t) = peak_token t (λ n. refl)
 peak_grantor (rights.current_role t) = peak_token t (λ n. refl)
 
 module _ {by : Kind} (keeps : (n : ℕ) → open_after by n ≡ n) where
-  peak_grantor_after : (g : Grantor) (ws rest : List Word) → IsGrantorAfter by g ws rest → Peak 0 ws rest
+  peak_grantor_after : (g : Grantor) (ws rest : List Word) → SpellsGrantorAfter by g ws rest → Peak 0 ws rest
   peak_grantor_after g ws rest (rights.grantor_after t i) = flat_then (peak_token t keeps) (peak_grantor i)
 
-peak_granted_by : {g : Option Grantor} {ws rest : List Word} → IsGrantedBy g ws rest → Peak 0 ws rest
-peak_granted_by o = peak_optional (IsGrantorAfter k.By) (peak_grantor_after (λ n. refl)) (λ n. refl) o
+peak_granted_by : {g : Option Grantor} {ws rest : List Word} → SpellsGrantedBy g ws rest → Peak 0 ws rest
+peak_granted_by o = peak_optional (SpellsGrantorAfter k.By) (peak_grantor_after (λ n. refl)) (λ n. refl) o
 
-peak_admin : {g : Option Grantor} {ws rest : List Word} → Optional k.With (IsGrantorAfter k.Admin) g ws rest → Peak 0 ws rest
-peak_admin o = peak_optional (IsGrantorAfter k.Admin) (peak_grantor_after (λ n. refl)) (λ n. refl) o
+peak_admin : {g : Option Grantor} {ws rest : List Word} → Optional k.With (SpellsGrantorAfter k.Admin) g ws rest → Peak 0 ws rest
+peak_admin o = peak_optional (SpellsGrantorAfter k.Admin) (peak_grantor_after (λ n. refl)) (λ n. refl) o
 
-peak_grantee : (g : Grantee) (ws rest : List Word) → IsGrantee g ws rest → Peak 0 ws rest
+peak_grantee : (g : Grantee) (ws rest : List Word) → SpellsGrantee g ws rest → Peak 0 ws rest
 peak_grantee g ws rest (rights.named i) = peak_identifier i
 peak_grantee g ws rest (rights.public t) = peak_token t (λ n. refl)
 
-peak_grantees : {gs : List Grantee} {ws rest : List Word} → Separated k.Comma IsGrantee gs ws rest → Peak 0 ws rest
-peak_grantees s = peak_separated IsGrantee peak_grantee (λ n. refl) s
+peak_grantees : {gs : List Grantee} {ws rest : List Word} → Separated k.Comma SpellsGrantee gs ws rest → Peak 0 ws rest
+peak_grantees s = peak_separated SpellsGrantee peak_grantee (λ n. refl) s
 
-peak_target : {t : Target} {ws rest : List Word} → IsTarget t ws rest → Peak 0 ws rest
+peak_target : {t : Target} {ws rest : List Word} → SpellsTarget t ws rest → Peak 0 ws rest
 peak_target (rights.unmarked o) = peak_object_name o
 peak_target (rights.table t o) = flat_then (peak_token t (λ n. refl)) (peak_object_name o)
 peak_target (rights.domain t o) = flat_then (peak_token t (λ n. refl)) (peak_object_name o)
@@ -105,40 +105,40 @@ peak_target (rights.procedure t o) = flat_then (peak_token t (λ n. refl)) (peak
 peak_target (rights.routine t o) = flat_then (peak_token t (λ n. refl)) (peak_object_name o)
 
 module _ {what : Kind} (keeps : (n : ℕ) → open_after what n ≡ n) where
-  peak_with_option : {x : Bool} {ws rest : List Word} → IsWithOption what x ws rest → Peak 0 ws rest
+  peak_with_option : {x : Bool} {ws rest : List Word} → SpellsWithOption what x ws rest → Peak 0 ws rest
   peak_with_option rights.without = peak_none
   peak_with_option (rights.with_option t u v) = flat_then (two t u (λ n. refl) keeps) (peak_token v (λ n. refl))
 
-  peak_option_for : {x : Bool} {ws rest : List Word} → IsOptionFor what x ws rest → Peak 0 ws rest
+  peak_option_for : {x : Bool} {ws rest : List Word} → SpellsOptionFor what x ws rest → Peak 0 ws rest
   peak_option_for rights.whole = peak_none
   peak_option_for (rights.option_for t u v) = flat_then (two t u keeps (λ n. refl)) (peak_token v (λ n. refl))
 
 -- ---- SELECT
 
-peak_info_value : {v : InfoValue} {ws rest : List Word} → IsInfoValue v ws rest → Peak 0 ws rest
+peak_info_value : {v : InfoValue} {ws rest : List Word} → SpellsInfoValue v ws rest → Peak 0 ws rest
 peak_info_value (information.literal s) = peak_spelled s (λ n. refl)
 peak_info_value (information.number s) = peak_spelled s (λ n. refl)
 
-peak_info_test : (x : InfoTest) (ws rest : List Word) → IsInfoTest x ws rest → Peak 0 ws rest
+peak_info_test : (x : InfoTest) (ws rest : List Word) → SpellsInfoTest x ws rest → Peak 0 ws rest
 peak_info_test x ws rest (information.equals i t v) = flat_then (peak_identifier i) (flat_then (peak_token t (λ n. refl)) (peak_info_value v))
 peak_info_test x ws rest (information.is_null i t u) = flat_then (peak_identifier i) (two t u (λ n. refl) (λ n. refl))
 
-peak_info_tests : {ts : List InfoTest} {ws rest : List Word} → IsInfoTests ts ws rest → Peak 0 ws rest
+peak_info_tests : {ts : List InfoTest} {ws rest : List Word} → SpellsInfoTests ts ws rest → Peak 0 ws rest
 peak_info_tests information.no_tests = peak_none
-peak_info_tests (information.tests_after t s) = flat_then (peak_token t (λ n. refl)) (peak_separated IsInfoTest peak_info_test (λ n. refl) s)
+peak_info_tests (information.tests_after t s) = flat_then (peak_token t (λ n. refl)) (peak_separated SpellsInfoTest peak_info_test (λ n. refl) s)
 
-peak_info_columns : {cs : InfoColumns} {ws rest : List Word} → IsInfoColumns cs ws rest → Peak 0 ws rest
+peak_info_columns : {cs : InfoColumns} {ws rest : List Word} → SpellsInfoColumns cs ws rest → Peak 0 ws rest
 peak_info_columns (information.all_columns t) = peak_token t (λ n. refl)
 peak_info_columns (information.named_columns s) = peak_identifiers s
 
-peak_info_query : {q : InfoQuery} {ws rest : List Word} → IsInfoQuery q ws rest → Peak 0 ws rest
+peak_info_query : {q : InfoQuery} {ws rest : List Word} → SpellsInfoQuery q ws rest → Peak 0 ws rest
 peak_info_query (information.info_query t cs f u p v ts) =
     flat_then (peak_token t (λ n. refl)) (flat_then (peak_info_columns cs) (flat_then (two f u (λ n. refl) (λ n. refl)) (flat_then (peak_token p (λ n. refl)) (flat_then (peak_identifier v) (peak_info_tests ts)))))
 
 -- ---- privileges, of which some list columns
 
 module _ {d : ℕ} (lt : 0 < d) where
-  deep_privilege : (p : Privilege) (ws rest : List Word) → IsPrivilege p ws rest → Deep d ws rest (λ _. IsPrivilege p ws rest)
+  deep_privilege : (p : Privilege) (ws rest : List Word) → SpellsPrivilege p ws rest → Deep d ws rest (λ _. SpellsPrivilege p ws rest)
   deep_privilege p ws rest (rights.select t cs) = deep_map (λ n q. rights.select t q.1) (deep_then (deep_token t (λ n. refl)) (deep_columns lt cs))
   deep_privilege p ws rest (rights.insert t cs) = deep_map (λ n q. rights.insert t q.1) (deep_then (deep_token t (λ n. refl)) (deep_columns lt cs))
   deep_privilege p ws rest (rights.update t cs) = deep_map (λ n q. rights.update t q.1) (deep_then (deep_token t (λ n. refl)) (deep_columns lt cs))
@@ -147,21 +147,21 @@ module _ {d : ℕ} (lt : 0 < d) where
   deep_privilege p ws rest (rights.usage t) = flat (peak_token t (λ n. refl)) (λ _. rights.usage t)
   deep_privilege p ws rest (rights.execute t) = flat (peak_token t (λ n. refl)) (λ _. rights.execute t)
 
-  deep_privileges : {ps : Privileges} {ws rest : List Word} → IsPrivileges ps ws rest → Deep d ws rest (λ _. IsPrivileges ps ws rest)
+  deep_privileges : {ps : Privileges} {ws rest : List Word} → SpellsPrivileges ps ws rest → Deep d ws rest (λ _. SpellsPrivileges ps ws rest)
   deep_privileges (rights.all_privileges t u) = flat (two t u (λ n. refl) (λ n. refl)) (λ _. rights.all_privileges t u)
-  deep_privileges (rights.listed s) = deep_map (λ n p. rights.listed p) (deep_separated IsPrivilege (λ _. IsPrivilege) deep_privilege (λ n. refl) s)
+  deep_privileges (rights.listed s) = deep_map (λ n p. rights.listed p) (deep_separated SpellsPrivilege (λ _. SpellsPrivilege) deep_privilege (λ n. refl) s)
 
-  deep_privileges_on : {ps : Privileges} {t : Target} {ws rest : List Word} → IsPrivilegesOn ps t ws rest → Deep d ws rest (λ _. IsPrivilegesOn ps t ws rest)
+  deep_privileges_on : {ps : Privileges} {t : Target} {ws rest : List Word} → SpellsPrivilegesOn ps t ws rest → Deep d ws rest (λ _. SpellsPrivilegesOn ps t ws rest)
   deep_privileges_on (rights.on_target ps o t fits) =
       deep_map (λ n p. rights.on_target p.0 o t fits) (deep_then (deep_privileges ps) (flat (flat_then (peak_token o (λ n. refl)) (peak_target t)) (λ _. o)))
 
 -- ---- ALTER
 
-peak_column_name : {c : List ℕ} {ws rest : List Word} → IsColumnName c ws rest → Peak 0 ws rest
+peak_column_name : {c : List ℕ} {ws rest : List Word} → SpellsColumnName c ws rest → Peak 0 ws rest
 peak_column_name (alters.column_name m i) = flat_then (peak_marked m (λ n. refl)) (peak_identifier i)
 
 module _ {m d : ℕ} (le : m ≤ d) (lt : 0 < d) where
-  deep_alter_table_action : {x : AlterTableAction} {ws rest : List Word} → IsAlterTableAction m x ws rest → Deep d ws rest (λ n. IsAlterTableAction n x ws rest)
+  deep_alter_table_action : {x : AlterTableAction} {ws rest : List Word} → SpellsAlterTableAction m x ws rest → Deep d ws rest (λ n. SpellsAlterTableAction n x ws rest)
   deep_alter_table_action (alters.add_column t u c) =
       deep_map (λ n p. alters.add_column t u p.1) (deep_then (flat (flat_then (peak_token t (λ n. refl)) (peak_marked u (λ n. refl))) (λ _. t)) (deep_column_definition le lt c))
   deep_alter_table_action (alters.add_constraint t c) = deep_map (λ n p. alters.add_constraint t p.1) (deep_then (deep_token t (λ n. refl)) (deep_table_constraint le lt c))
@@ -174,7 +174,7 @@ module _ {m d : ℕ} (le : m ≤ d) (lt : 0 < d) where
   deep_alter_table_action (alters.drop_constraint t u i b) =
       flat (flat_then (two t u (λ n. refl) (λ n. refl)) (flat_then (peak_identifier i) (peak_behaviour b))) (λ _. alters.drop_constraint t u i b)
 
-  deep_alter_domain_action : {x : AlterDomainAction} {ws rest : List Word} → IsAlterDomainAction m x ws rest → Deep d ws rest (λ n. IsAlterDomainAction n x ws rest)
+  deep_alter_domain_action : {x : AlterDomainAction} {ws rest : List Word} → SpellsAlterDomainAction m x ws rest → Deep d ws rest (λ n. SpellsAlterDomainAction n x ws rest)
   deep_alter_domain_action (alters.set_domain_default t u v) = flat (flat_then (two t u (λ n. refl) (λ n. refl)) (peak_default v)) (λ _. alters.set_domain_default t u v)
   deep_alter_domain_action (alters.drop_domain_default t u) = flat (two t u (λ n. refl) (λ n. refl)) (λ _. alters.drop_domain_default t u)
   deep_alter_domain_action {rest = rest} (alters.add_domain_check {c = c} {a = a} t i) =
@@ -183,17 +183,17 @@ module _ {m d : ℕ} (le : m ≤ d) (lt : 0 < d) where
 
 -- ---- statements
 
-deep_head : {d : ℕ} {x y : Kind} {o : ObjectName} {ws a b rest : List Word} → Token x ws a → Token y a b → IsObjectName o b rest → ((n : ℕ) → open_after x n ≡ n) → ((n : ℕ) → open_after y n ≡ n)
-    → Deep d ws rest (λ _. IsObjectName o b rest)
+deep_head : {d : ℕ} {x y : Kind} {o : ObjectName} {ws a b rest : List Word} → Token x ws a → Token y a b → SpellsObjectName o b rest → ((n : ℕ) → open_after x n ≡ n) → ((n : ℕ) → open_after y n ≡ n)
+    → Deep d ws rest (λ _. SpellsObjectName o b rest)
 deep_head t u o keeps keeps' = flat (flat_then (two t u keeps keeps') (peak_object_name o)) (λ _. o)
 
 module _ {m d : ℕ} (le : m ≤ d) (lt : 1 < d) where
   some : 0 < d
   some = omega (arith, lt)
 
-  deep_statement : {x : Statement} {ws rest : List Word} → IsStatement m x ws rest → Deep d ws rest (λ n. IsStatement n x ws rest)
+  deep_statement : {x : Statement} {ws rest : List Word} → SpellsStatement m x ws rest → Deep d ws rest (λ n. SpellsStatement n x ws rest)
   deep_statement (rules.connect t u s c v n) =
-      flat (flat_then (two t u (λ n. refl) (λ n. refl)) (flat_then (peak_literal_name s) (flat_then (peak_optional IsLiteralName (λ n ws rest i. peak_literal_name i) (λ n. refl) c)
+      flat (flat_then (two t u (λ n. refl) (λ n. refl)) (flat_then (peak_literal_name s) (flat_then (peak_optional SpellsLiteralName (λ n ws rest i. peak_literal_name i) (λ n. refl) c)
       (flat_then (peak_token v (λ n. refl)) (peak_literal_name n))))) (λ _. rules.connect t u s c v n)
   deep_statement (rules.set_connection t u i) = flat (flat_then (two t u (λ n. refl) (λ n. refl)) (peak_literal_name i)) (λ _. rules.set_connection t u i)
   deep_statement (rules.disconnect t i) = flat (flat_then (peak_token t (λ n. refl)) (peak_literal_name i)) (λ _. rules.disconnect t i)
@@ -215,7 +215,7 @@ module _ {m d : ℕ} (le : m ≤ d) (lt : 1 < d) where
   deep_statement (rules.create_domain t u o a ty v s) =
       deep_map (λ n p. rules.create_domain t u o a p.1.0 v p.1.1.1)
       (deep_then (flat (flat_then (two t u (λ n. refl) (λ n. refl)) (flat_then (peak_object_name o) (peak_marked a (λ n. refl)))) (λ _. o)) (deep_then (deep_more le (deep_type ty))
-      (deep_then (flat (peak_default_clause v) (λ _. v)) (deep_repeated (IsDomainCheck m) (λ n. IsDomainCheck n) (deep_domain_check le some) s))))
+      (deep_then (flat (peak_default_clause v) (λ _. v)) (deep_repeated (SpellsDomainCheck m) (λ n. SpellsDomainCheck n) (deep_domain_check le some) s))))
   deep_statement {rest = rest} (rules.create_assertion {x = x} {c = c} t u o i) =
       deep_map (λ n p. rules.create_assertion t u o p.1)
       (deep_then (deep_head t u o (λ n. refl) (λ n. refl)) (deep_check le some _ x c rest i))
@@ -228,7 +228,7 @@ module _ {m d : ℕ} (le : m ≤ d) (lt : 1 < d) where
       let more : 0 < d - 1 = omega (arith, lt) in
       deep_map (λ n p. rules.create_procedure t u o p.1.0 l b v p.1.1.1.1.1 e)
       (deep_then (deep_head t u o (λ n. refl) (λ n. refl)) (deep_then (deep_params le some ps) (deep_then (flat (peak_language l) (λ _. l))
-      (deep_begin (λ n. Token k.Atomic f g × IsActs n xs g h) some b (deep_then (deep_token v (λ n. refl)) (deep_acts inside more s)) e))))
+      (deep_begin (λ n. Token k.Atomic f g × SpellsActs n xs g h) some b (deep_then (deep_token v (λ n. refl)) (deep_acts inside more s)) e))))
   deep_statement (rules.alter_table t u o x) =
       deep_map (λ n p. rules.alter_table t u o p.1) (deep_then (deep_head t u o (λ n. refl) (λ n. refl)) (deep_alter_table_action le some x))
   deep_statement (rules.alter_domain t u o x) =
@@ -257,8 +257,8 @@ module _ {m d : ℕ} (le : m ≤ d) (lt : 1 < d) where
 most_is : {d : ℕ} {R : ℕ → Type 0} {words : List Word} (p : Deep d words [] R) → most_open 0 words ≡ p.deep
 most_is p = omega (arith, ap (most_open 0) (p.peak.splits ∙ append-nil p.peak.front), p.peak.most 0)
 
-pub statement_limited : (n : ℕ) (s : Statement) (words : List Word) → 2 ≤ n → IsStatement n s words [] → most_open 0 words ≤ n
+pub statement_limited : (n : ℕ) (s : Statement) (words : List Word) → 2 ≤ n → SpellsStatement n s words [] → most_open 0 words ≤ n
 statement_limited n s words le i = let p = deep_statement {m = n} {d = n} (omega arith) (omega (arith, le)) i in omega (arith, most_is p, p.few)
 
-pub statement_fits : (m n : ℕ) (s : Statement) (words : List Word) → IsStatement m s words [] → most_open 0 words ≤ n → IsStatement n s words []
+pub statement_fits : (m n : ℕ) (s : Statement) (words : List Word) → SpellsStatement m s words [] → most_open 0 words ≤ n → SpellsStatement n s words []
 statement_fits m n s words i le = let p = deep_statement {m = m} {d = m + 2} (omega arith) (omega arith) i in p.still n (omega (arith, most_is p, le))

@@ -14,9 +14,9 @@ use Rattle.sql_spelling.specs.declared.kind.Kind.{Kind}
 use Rattle.sql_spelling.specs.declared.kind.Kind.TheVariants as k
 use Rattle.sql_phrases.specs.Reading.{peek, next, sees}
 use Rattle.sql_phrases.specs.Shapes.{Token, token}
-use Rattle.sql_phrases.specs.NameRules.{IsIdentifier, IsLiteralName}
-use Rattle.sql_grammar.specs.RightsRules.{IsGrantorAfter, IsPrivilegesOn, IsOptionFor, whole, option_for}
-use Rattle.sql_grammar.specs.StatementRules.{IsRoleChoice, by_literal, by_name, no_role, IsSchemaNameClause, named, authorization, IsDropKind, table, view, domain, assertion, function, procedure, routine, IsStatement, connect, set_connection, disconnect, set_schema, set_role, create_schema, create_role, create_table, create_view, create_domain, create_assertion, create_function, create_procedure, alter_table, alter_domain, select, drop_role, drop_schema, drop_object, grant_privileges, revoke_privileges, grant_roles, revoke_roles}
+use Rattle.sql_phrases.specs.NameRules.{SpellsIdentifier, SpellsLiteralName}
+use Rattle.sql_grammar.specs.RightsRules.{SpellsGrantorAfter, SpellsPrivilegesOn, SpellsOptionFor, whole, option_for}
+use Rattle.sql_grammar.specs.StatementRules.{SpellsRoleChoice, by_literal, by_name, no_role, SpellsSchemaNameClause, named, authorization, SpellsDropKind, table, view, domain, assertion, function, procedure, routine, SpellsStatement, connect, set_connection, disconnect, set_schema, set_role, create_schema, create_role, create_table, create_view, create_domain, create_assertion, create_function, create_procedure, alter_table, alter_domain, select, drop_role, drop_schema, drop_object, grant_privileges, revoke_privileges, grant_roles, revoke_roles}
 use Rattle.sql_phrases.specs.declared.error.GrammarError.{GrammarError}
 use Rattle.sql_phrases.specs.declared.error.GrammarError.TheVariants.{Syntax, NotInProfile, Memory}
 use Rattle.sql_phrases.specs.Parsers.{Reads}
@@ -37,13 +37,13 @@ use Rattle.sql_grammar.proofs.InformationProofs.{info_query_at, gives_info_query
 
 -- ---- lit | name | NONE
 
-role_choice_at : {x : RoleChoice} {ws rest : List Word} → IsRoleChoice x ws rest → parse.role_choice ws ≡ Some (x, rest)
+role_choice_at : {x : RoleChoice} {ws rest : List Word} → SpellsRoleChoice x ws rest → parse.role_choice ws ≡ Some (x, rest)
 unfolding parse.role_choice is_name same_kind
 role_choice_at (by_literal l) = rw (literal_name_begins l, literal_name_at l)
 role_choice_at {ws = ws} (by_name n) = let b = identifier_never k.None n refl in rw (identifier_never k.Literal n refl, b, after_not k.None ws b, identifier_at n)
 role_choice_at {ws = ws} (no_role t) = rw (sees_other k.Literal k.None ws (peek_at t) refl, sees_at t, after_at t)
 
-gives_role_choice : {ws : List Word} → Gives (parse.role_choice ws) (λ x a. IsRoleChoice x ws a)
+gives_role_choice : {ws : List Word} → Gives (parse.role_choice ws) (λ x a. SpellsRoleChoice x ws a)
 unfolding parse.role_choice
 gives_role_choice {ws} = gives_if (sees k.Literal ws)
     (λ _. gives_then gives_literal_name (λ n a is. gives_some (by_literal is)))
@@ -51,22 +51,22 @@ gives_role_choice {ws} = gives_if (sees k.Literal ws)
 
 -- ---- name [AUTHORIZATION name] | AUTHORIZATION name
 
-schema_name_clause_at : {x : SchemaNameClause} {ws rest : List Word} → IsSchemaNameClause x ws rest → Below follows 1 rest → parse.schema_name_clause ws ≡ Some (x, rest)
+schema_name_clause_at : {x : SchemaNameClause} {ws rest : List Word} → SpellsSchemaNameClause x ws rest → Below follows 1 rest → parse.schema_name_clause ws ≡ Some (x, rest)
 unfolding parse.schema_name_clause is_name same_kind
 schema_name_clause_at {ws = ws} {rest = rest} (named {owner = o} {a = a} n is) s =
     let e = identifier_never k.Authorization n refl in
-    rw (e, after_not k.Authorization ws e, identifier_at n, optional_complete k.Authorization names.identifier IsIdentifier o a rest is (passes follows 1 k.Authorization rest s (lit≤ tt)) (λ y b r. identifier_at r))
+    rw (e, after_not k.Authorization ws e, identifier_at n, optional_complete k.Authorization names.identifier SpellsIdentifier o a rest is (passes follows 1 k.Authorization rest s (lit≤ tt)) (λ y b r. identifier_at r))
 schema_name_clause_at (authorization t n) s = rw (sees_at t, after_at t, identifier_at n)
 
-gives_schema_name_clause : {ws : List Word} → Gives (parse.schema_name_clause ws) (λ x a. IsSchemaNameClause x ws a)
+gives_schema_name_clause : {ws : List Word} → Gives (parse.schema_name_clause ws) (λ x a. SpellsSchemaNameClause x ws a)
 unfolding parse.schema_name_clause
 gives_schema_name_clause {ws} = gives_eat k.Authorization tt _ _
     (λ t. gives_then gives_identifier (λ n a is. gives_some (authorization t is)))
-    (λ e. rw e (gives_then gives_identifier (λ n a is. gives_then (optional_sound k.Authorization tt names.identifier IsIdentifier (λ l. gives_identifier) a) (λ o b own. gives_some (named is own)))))
+    (λ e. rw e (gives_then gives_identifier (λ n a is. gives_then (optional_sound k.Authorization tt names.identifier SpellsIdentifier (λ l. gives_identifier) a) (λ o b own. gives_some (named is own)))))
 
 -- ---- DROP
 
-drop_kind_at : {kind : DropKind} {ws rest : List Word} → IsDropKind kind ws rest → parse.drop_by (peek ws) ws ≡ parse.drop_object kind rest
+drop_kind_at : {kind : DropKind} {ws rest : List Word} → SpellsDropKind kind ws rest → parse.drop_by (peek ws) ws ≡ parse.drop_object kind rest
 drop_kind_at (table t) = rw (peek_at t, next_at t)
 drop_kind_at (view t) = rw (peek_at t, next_at t)
 drop_kind_at (domain t) = rw (peek_at t, next_at t)
@@ -77,12 +77,12 @@ drop_kind_at (routine t) = rw (peek_at t, next_at t)
 
 -- ---- REVOKE
 
-revoked_no_roles : {x : Bool} {ps : Privileges} {t : Target} {ws a rest : List Word} → IsOptionFor k.Grant x ws a → IsPrivilegesOn ps t a rest → names_then k.From ws ≡ false
+revoked_no_roles : {x : Bool} {ps : Privileges} {t : Target} {ws a rest : List Word} → SpellsOptionFor k.Grant x ws a → SpellsPrivilegesOn ps t a rest → names_then k.From ws ≡ false
 unfolding is_name same_kind
 revoked_no_roles whole on = privileges_on_then k.From refl on
 revoked_no_roles {ws = ws} (option_for w o f) on = names_then_no k.From ws (rw (peek_at w) refl)
 
-revoked_no_admin : {x : Bool} {ps : Privileges} {t : Target} {ws a rest : List Word} → IsOptionFor k.Grant x ws a → IsPrivilegesOn ps t a rest → sees_admin_option ws ≡ false
+revoked_no_admin : {x : Bool} {ps : Privileges} {t : Target} {ws a rest : List Word} → SpellsOptionFor k.Grant x ws a → SpellsPrivilegesOn ps t a rest → sees_admin_option ws ≡ false
 unfolding sees_admin_option
 revoked_no_admin whole on = rw (privileges_on_never k.Admin on refl refl)
 revoked_no_admin {ws = ws} (option_for w o f) on = rw (sees_other k.Admin k.Grant ws (peek_at w) refl)
@@ -93,17 +93,17 @@ admin_option_no_roles (token h) (token e) = rw (h, e) refl
 
 -- ---- statements
 
-pub statement_at : (x : Statement) (ws rest : List Word) → IsStatement 64 x ws rest → Below follows 1 rest → Below continues 1 rest → Below binds 1 rest → parse.statement ws ≡ Some (x, rest)
+pub statement_at : (x : Statement) (ws rest : List Word) → SpellsStatement 64 x ws rest → Below follows 1 rest → Below continues 1 rest → Below binds 1 rest → parse.statement ws ≡ Some (x, rest)
 unfolding parse.statement parse.connect parse.set parse.create parse.create_schema parse.create_role parse.admin parse.alter parse.alter_table parse.alter_domain parse.drop parse.drop_schema parse.drop_object parse.grant parse.grant_privileges parse.grant_roles parse.revoke parse.revoke_privileges parse.revoke_roles parse.revoke_admin_option sees_admin_option is_name same_kind
 statement_at x ws rest (connect {connection = cn} {c = c} {d = d} t o s an u n) e z g =
-    rw (peek_at t, next_at t, expect_at o, literal_name_at s, optional_complete k.As names.literal_name IsLiteralName cn c d an (sees_other k.As k.User d (peek_at u) refl) (λ y a r. literal_name_at r), expect_at u, literal_name_at n)
+    rw (peek_at t, next_at t, expect_at o, literal_name_at s, optional_complete k.As names.literal_name SpellsLiteralName cn c d an (sees_other k.As k.User d (peek_at u) refl) (λ y a r. literal_name_at r), expect_at u, literal_name_at n)
 statement_at x ws rest (set_connection t c n) e z g = rw (peek_at t, next_at t, peek_at c, next_at c, literal_name_at n)
 statement_at x ws rest (disconnect t n) e z g = rw (peek_at t, next_at t, literal_name_at n)
 statement_at x ws rest (set_schema t c n) e z g = rw (peek_at t, next_at t, peek_at c, next_at c, literal_name_at n)
 statement_at x ws rest (set_role t c r) e z g = rw (peek_at t, next_at t, peek_at c, next_at c, role_choice_at r)
 statement_at x ws rest (create_schema t c n) e z g = rw (peek_at t, next_at t, peek_at c, next_at c, schema_name_clause_at n e)
 statement_at x ws rest (create_role {admin = ad} {c = l} t c n a) e z g =
-    rw (peek_at t, next_at t, peek_at c, next_at c, identifier_at n, optional_complete k.With (rights.grantor_after k.Admin) (IsGrantorAfter k.Admin) ad l rest a (passes follows 1 k.With rest e (lit≤ tt)) (λ y b r. grantor_after_at r))
+    rw (peek_at t, next_at t, peek_at c, next_at c, identifier_at n, optional_complete k.With (rights.grantor_after k.Admin) (SpellsGrantorAfter k.Admin) ad l rest a (passes follows 1 k.With rest e (lit≤ tt)) (λ y b r. grantor_after_at r))
 statement_at x ws rest (create_table t c o es) e z g = rw (peek_at t, next_at t, peek_at c, next_at c, create_table_at o es)
 statement_at x ws rest (create_view t c o cs u is) e z g = rw (peek_at t, next_at t, peek_at c, next_at c, create_view_at o cs u is g)
 statement_at x ws rest (create_domain t c o u ty v m) e z g = rw (peek_at t, next_at t, peek_at c, next_at c, create_domain_at o u ty v m e z)
@@ -187,21 +187,21 @@ statement_at x ws rest (revoke_roles {roles = rs} {gs = gs} {a = a} {b = l} {c =
       behaviour_at b e,
     )
 
-gives_connect : {ws a : List Word} → Token k.Connect ws a → Gives (parse.connect a) (λ x rest. IsStatement 64 x ws rest)
+gives_connect : {ws a : List Word} → Token k.Connect ws a → Gives (parse.connect a) (λ x rest. SpellsStatement 64 x ws rest)
 unfolding parse.connect
-gives_connect t = gives_then (gives_expect k.To tt) (λ _ b o. gives_then gives_literal_name (λ s c is. gives_then (optional_sound k.As tt names.literal_name IsLiteralName (λ l. gives_literal_name) c) (λ cn d an.
+gives_connect t = gives_then (gives_expect k.To tt) (λ _ b o. gives_then gives_literal_name (λ s c is. gives_then (optional_sound k.As tt names.literal_name SpellsLiteralName (λ l. gives_literal_name) c) (λ cn d an.
     gives_then (gives_expect k.User tt) (λ _ e u. gives_then gives_literal_name (λ n rest is'. gives_some (connect t o is an u is'))))))
 
-gives_set : {ws a : List Word} → Token k.Set ws a → (kind : Kind) → peek a ≡ kind → Gives (parse.set_by kind a) (λ x rest. IsStatement 64 x ws rest)
+gives_set : {ws a : List Word} → Token k.Set ws a → (kind : Kind) → peek a ≡ kind → Gives (parse.set_by kind a) (λ x rest. SpellsStatement 64 x ws rest)
 gives_set t k.Connection e = gives_then gives_literal_name (λ n rest is. gives_some (set_connection t (token_next k.Connection tt e) is))
 gives_set t k.Schema e = gives_then gives_literal_name (λ n rest is. gives_some (set_schema t (token_next k.Schema tt e) is))
 gives_set t k.Role e = gives_then gives_role_choice (λ r rest is. gives_some (set_role t (token_next k.Role tt e) is))
 gives_set t _ e = gives_none
 
-gives_create : {ws a : List Word} → Token k.Create ws a → (kind : Kind) → peek a ≡ kind → Gives (parse.create_by kind a) (λ x rest. IsStatement 64 x ws rest)
+gives_create : {ws a : List Word} → Token k.Create ws a → (kind : Kind) → peek a ≡ kind → Gives (parse.create_by kind a) (λ x rest. SpellsStatement 64 x ws rest)
 unfolding parse.create_schema parse.create_role parse.admin
 gives_create t k.Schema e = gives_then gives_schema_name_clause (λ n rest is. gives_some (create_schema t (token_next k.Schema tt e) is))
-gives_create t k.Role e = gives_then gives_identifier (λ n b is. gives_then (optional_sound k.With tt (rights.grantor_after k.Admin) (IsGrantorAfter k.Admin) (gives_grantor_after k.Admin tt) b)
+gives_create t k.Role e = gives_then gives_identifier (λ n b is. gives_then (optional_sound k.With tt (rights.grantor_after k.Admin) (SpellsGrantorAfter k.Admin) (gives_grantor_after k.Admin tt) b)
     (λ ad rest an. gives_some (create_role t (token_next k.Role tt e) is an)))
 gives_create t k.Table e = gives_create_table t (token_next k.Table tt e)
 gives_create t k.View e = gives_create_view t (token_next k.View tt e)
@@ -211,17 +211,17 @@ gives_create t k.Function e = gives_create_function t (token_next k.Function tt 
 gives_create t k.Procedure e = gives_create_procedure t (token_next k.Procedure tt e)
 gives_create t _ e = gives_none
 
-gives_alter : {ws a : List Word} → Token k.Alter ws a → Gives (parse.alter a) (λ x rest. IsStatement 64 x ws rest)
+gives_alter : {ws a : List Word} → Token k.Alter ws a → Gives (parse.alter a) (λ x rest. SpellsStatement 64 x ws rest)
 unfolding parse.alter parse.alter_table parse.alter_domain
 gives_alter t = gives_eat k.Table tt _ _
     (λ c. gives_then gives_object_name (λ o b is. gives_then gives_alter_table_action (λ act rest h. gives_some (alter_table t c is h))))
     (λ e. rw e (gives_then (gives_expect k.Domain tt) (λ _ b c. gives_then gives_object_name (λ o d is. gives_then gives_alter_domain_action (λ act rest h. gives_some (alter_domain t c is h))))))
 
-gives_drop_object : {kind : DropKind} {ws a b : List Word} → Token k.Drop ws a → IsDropKind kind a b → Gives (parse.drop_object kind b) (λ x rest. IsStatement 64 x ws rest)
+gives_drop_object : {kind : DropKind} {ws a b : List Word} → Token k.Drop ws a → SpellsDropKind kind a b → Gives (parse.drop_object kind b) (λ x rest. SpellsStatement 64 x ws rest)
 unfolding parse.drop_object
 gives_drop_object t kd = gives_then gives_object_name (λ o c is. gives_then gives_behaviour (λ b rest how. gives_some (drop_object t kd is how)))
 
-gives_drop : {ws a : List Word} → Token k.Drop ws a → (kind : Kind) → peek a ≡ kind → Gives (parse.drop_by kind a) (λ x rest. IsStatement 64 x ws rest)
+gives_drop : {ws a : List Word} → Token k.Drop ws a → (kind : Kind) → peek a ≡ kind → Gives (parse.drop_by kind a) (λ x rest. SpellsStatement 64 x ws rest)
 unfolding parse.drop_schema
 gives_drop t k.Role e = gives_then gives_identifier (λ n rest is. gives_some (drop_role t (token_next k.Role tt e) is))
 gives_drop t k.Schema e = gives_then gives_identifier (λ n c is. gives_then gives_behaviour (λ b rest how. gives_some (drop_schema t (token_next k.Schema tt e) is how)))
@@ -234,7 +234,7 @@ gives_drop t k.Procedure e = gives_drop_object t (procedure (token_next k.Proced
 gives_drop t k.Routine e = gives_drop_object t (routine (token_next k.Routine tt e))
 gives_drop t _ e = gives_none
 
-gives_grant : {ws a : List Word} → Token k.Grant ws a → Gives (parse.grant a) (λ x rest. IsStatement 64 x ws rest)
+gives_grant : {ws a : List Word} → Token k.Grant ws a → Gives (parse.grant a) (λ x rest. SpellsStatement 64 x ws rest)
 unfolding parse.grant parse.grant_roles parse.grant_privileges
 gives_grant {a = a} t = gives_if (names_then k.To a)
     (λ _. gives_then (identifiers_parse.sound a) (λ rs b r. gives_then (gives_expect k.To tt) (λ _ c o. gives_then (identifiers_parse.sound c) (λ gs d m.
@@ -242,12 +242,12 @@ gives_grant {a = a} t = gives_if (names_then k.To a)
     (λ _. gives_then gives_privileges_on (λ on b is. gives_then (gives_expect k.To tt) (λ _ c o. gives_then (grantees_parse.sound c) (λ gs d m.
     gives_then (gives_with_option k.Grant tt) (λ w e wo. gives_then gives_granted_by (λ by rest g. gives_some (grant_privileges t is o m wo g)))))))
 
-gives_revoke_roles : {x : Bool} {ws a b : List Word} → Token k.Revoke ws a → IsOptionFor k.Admin x a b → Gives (parse.revoke_roles x b) (λ s rest. IsStatement 64 s ws rest)
+gives_revoke_roles : {x : Bool} {ws a b : List Word} → Token k.Revoke ws a → SpellsOptionFor k.Admin x a b → Gives (parse.revoke_roles x b) (λ s rest. SpellsStatement 64 s ws rest)
 unfolding parse.revoke_roles
 gives_revoke_roles {b = b} t op = gives_then (identifiers_parse.sound b) (λ rs c r. gives_then (gives_expect k.From tt) (λ _ d o. gives_then (identifiers_parse.sound d) (λ gs e m.
     gives_then gives_granted_by (λ by f g. gives_then gives_behaviour (λ how rest h. gives_some (revoke_roles t op r o m g h))))))
 
-gives_revoke_privileges : {ws a : List Word} → Token k.Revoke ws a → Gives (parse.revoke_privileges a) (λ s rest. IsStatement 64 s ws rest)
+gives_revoke_privileges : {ws a : List Word} → Token k.Revoke ws a → Gives (parse.revoke_privileges a) (λ s rest. SpellsStatement 64 s ws rest)
 unfolding parse.revoke_privileges
 gives_revoke_privileges t = gives_then (gives_option_for k.Grant tt) (λ x b op. gives_then gives_privileges_on (λ on c is. gives_then (gives_expect k.From tt) (λ _ d o. gives_then (grantees_parse.sound d) (λ gs e m.
     gives_then gives_granted_by (λ by f g. gives_then gives_behaviour (λ how rest h. gives_some (revoke_privileges t op is o m g h)))))))
@@ -256,7 +256,7 @@ admin_option_parts : (ws : List Word) → sees_admin_option ws ≡ true → (see
 unfolding sees_admin_option
 admin_option_parts ws e = and_parts (sees k.Admin ws) (sees k.Option (next ws)) e
 
-gives_revoke : {ws a : List Word} → Token k.Revoke ws a → Gives (parse.revoke a) (λ s rest. IsStatement 64 s ws rest)
+gives_revoke : {ws a : List Word} → Token k.Revoke ws a → Gives (parse.revoke a) (λ s rest. SpellsStatement 64 s ws rest)
 unfolding parse.revoke parse.revoke_admin_option
 gives_revoke {a = a} t = gives_if (names_then k.From a)
     (λ _. gives_revoke_roles t whole)
@@ -264,7 +264,7 @@ gives_revoke {a = a} t = gives_if (names_then k.From a)
     (λ e. let p = admin_option_parts a e in gives_then (gives_expect k.For tt) (λ _ b f. gives_revoke_roles t (option_for (token_seen k.Admin tt p.0) (token_seen k.Option tt p.1) f)))
     (λ _. gives_revoke_privileges t))
 
-statement_sound_by : (ws : List Word) (kind : Kind) → peek ws ≡ kind → Gives (parse.statement_by kind ws) (λ x rest. IsStatement 64 x ws rest)
+statement_sound_by : (ws : List Word) (kind : Kind) → peek ws ≡ kind → Gives (parse.statement_by kind ws) (λ x rest. SpellsStatement 64 x ws rest)
 unfolding parse.set parse.create parse.drop
 statement_sound_by ws k.Connect e = gives_connect (token_next k.Connect tt e)
 statement_sound_by ws k.Disconnect e = gives_then gives_literal_name (λ n rest is. gives_some (disconnect (token_next k.Disconnect tt e) is))
@@ -277,21 +277,21 @@ statement_sound_by ws k.Revoke e = gives_revoke (token_next k.Revoke tt e)
 statement_sound_by ws k.Select e = gives_then (gives_info_query (token_next k.Select tt e)) (λ q rest is. gives_some (select is))
 statement_sound_by ws _ e = gives_none
 
-pub statement_sound : (ws : List Word) → Gives (parse.statement ws) (λ x rest. IsStatement 64 x ws rest)
+pub statement_sound : (ws : List Word) → Gives (parse.statement ws) (λ x rest. SpellsStatement 64 x ws rest)
 unfolding parse.statement
 statement_sound ws = statement_sound_by ws (peek ws) refl
 
 -- ---- whole texts
 
 -- what is read to the end of the words is spelled by them
-pub found : (ws : List Word) (x : Statement) → parse.statement ws ≡ Some (x, []) → IsStatement 64 x ws []
+pub found : (ws : List Word) (x : Statement) → parse.statement ws ≡ Some (x, []) → SpellsStatement 64 x ws []
 found ws x h = (statement_sound ws).given x [] h
 
 -- what all the words spell is read
-pub must : (ws : List Word) (x : Statement) → IsStatement 64 x ws [] → parse.statement ws ≡ Some (x, [])
+pub must : (ws : List Word) (x : Statement) → SpellsStatement 64 x ws [] → parse.statement ws ≡ Some (x, [])
 must ws x r = statement_at x ws [] r (record { below = lit< tt }) (record { below = lit< tt }) (record { below = lit< tt })
 
-pub only : (ws : List Word) (a b : Statement) → IsStatement 64 a ws [] → IsStatement 64 b ws [] → a ≡ b
+pub only : (ws : List Word) (a b : Statement) → SpellsStatement 64 a ws [] → SpellsStatement 64 b ws [] → a ≡ b
 only ws a b r s = (some_pair_parts a b [] [] (sym (must ws a r) ∙ must ws b s)).0
 
 no_words : (ws : List Word) → length ws ≡ 0 → ws ≡ []
@@ -301,10 +301,10 @@ no_words (w ∷ ws) h = absurd (omega arith)
 pub at_end : {ws start left : List Word} {x : Statement} → start ≡ ws → parse.statement start ≡ Some (x, left) → length left ≡ 0 → parse.statement ws ≡ Some (x, [])
 at_end {ws} {start} {left} {x} s h z = ap parse.statement (sym s) ∙ h ∙ ap (λ l. Some (x, l)) (no_words left z)
 
-pub not_at_end : {ws start left : List Word} {x : Statement} → start ≡ ws → parse.statement start ≡ Some (x, left) → (length left ≡ 0 → ⊥) → (o : Statement) → IsStatement 64 o ws [] → ⊥
+pub not_at_end : {ws start left : List Word} {x : Statement} → start ≡ ws → parse.statement start ≡ Some (x, left) → (length left ≡ 0 → ⊥) → (o : Statement) → SpellsStatement 64 o ws [] → ⊥
 not_at_end {ws} {start} {left} {x} s h z o r = z (ap length (some_pair_parts x o left [] (sym (ap parse.statement (sym s) ∙ h) ∙ must ws o r)).1)
 
-pub never_read : {ws start : List Word} (left : List Word) (error : GrammarError) → start ≡ ws → Reads (parse.statement start) (Err error) left → error ≡ Syntax → (x : Statement) → IsStatement 64 x ws [] → ⊥
+pub never_read : {ws start : List Word} (left : List Word) (error : GrammarError) → start ≡ ws → Reads (parse.statement start) (Err error) left → error ≡ Syntax → (x : Statement) → SpellsStatement 64 x ws [] → ⊥
 never_read {ws} left Syntax s h is x r = let n = ap parse.statement (sym s) ∙ h in let m = must ws x r in cc
 never_read left NotInProfile s h is x r = cc
 never_read left Memory s h is x r = cc

@@ -1,5 +1,6 @@
 -- Reading ALTER TABLE and ALTER DOMAIN.
-use Rattle.std.specs.Prelude.{ℕ, List, if◌then◌else◌}
+use Rattle.std.specs.Prelude.{if◌then◌else◌}
+use Rattle.sql_names.specs.NameBytes.{NameBytes}
 use Rattle.sql_names.specs.declared.sort.Default.{Default}
 use Rattle.sql_tree.specs.declared.statement.AlterDomainAction.{AlterDomainAction}
 use Rattle.sql_tree.specs.declared.statement.AlterDomainAction.TheVariants as domains
@@ -13,7 +14,7 @@ use Rattle.sql_phrases.specs.TypeParsers as types
 use Rattle.sql_definitions.specs.CheckParsers.{domain_check}
 use Rattle.sql_definitions.specs.TableParsers.{column_definition, table_constraint}
 
-unfoldable pub column_name : Parser (List ℕ)
+unfoldable pub column_name : Parser NameBytes
 column_name = do
   _ ← eat k.Column
   identifier

@@ -7,7 +7,7 @@ use Rattle.sql_words.specs.declared.word.Word.{Word}
 use Rattle.sql_spelling.specs.declared.kind.Kind.{Kind}
 use Rattle.sql_spelling.specs.declared.kind.Kind.TheVariants as k
 use Rattle.sql_phrases.specs.Reading.{peek, next, spelling, sees, after}
-use Rattle.sql_phrases.specs.Shapes.{Spelled, Token, token, Spells, spells, Separated, one, more, Repeated, no_more, again, Optional, left_out, said}
+use Rattle.sql_phrases.specs.Shapes.{Spelled, Token, token, SpellsText, spells, Separated, one, more, Repeated, no_more, again, Optional, left_out, said}
 use Rattle.sql_phrases.specs.Parsers as parse
 use Rattle.sql_phrases.specs.Parsers.{Parser, Outcome, and_then, separated, separated_from, repeated, repeated_from, optional, eat, expect}
 use Rattle.sql_phrases.proofs.Follow.{Below, below_at, below_more, sees_yes, passes, Begins, begins, begins_at}
@@ -49,8 +49,8 @@ gives_when false p q h g = g refl
 token_from : (by : Kind) (ws : List Word) → Begins by ws → Token by ws (next ws)
 token_from by ws b = subst (λ l. Token by l (next ws)) (sym b.list) (token b.kind)
 
-spells_from : (by : Kind) (ws : List Word) → Begins by ws → Spells by (spelling ws) ws (next ws)
-spells_from by ws b = subst (λ t. Spells by t ws (next ws)) (sym b.text) (subst (λ l. Spells by (text_of b.word) l (next ws)) (sym b.list) (spells b.kind))
+spells_from : (by : Kind) (ws : List Word) → Begins by ws → SpellsText by (spelling ws) ws (next ws)
+spells_from by ws b = subst (λ t. SpellsText by t ws (next ws)) (sym b.text) (subst (λ l. SpellsText by (text_of b.word) l (next ws)) (sym b.list) (spells b.kind))
 
 after_is : (by : Kind) (ws : List Word) → sees by ws ≡ true → after by ws ≡ next ws
 unfolding after
@@ -68,13 +68,13 @@ module _ (by : Kind) (some : IsWord by) {ws : List Word} where
   pub token_seen : sees by ws ≡ true → Token by ws (next ws)
   token_seen e = token_from by ws (begins by (λ w. subst IsWord (sym w) some) ws e)
 
-  pub spells_seen : sees by ws ≡ true → Spells by (spelling ws) ws (next ws)
+  pub spells_seen : sees by ws ≡ true → SpellsText by (spelling ws) ws (next ws)
   spells_seen e = spells_from by ws (begins by (λ w. subst IsWord (sym w) some) ws e)
 
   pub token_next : peek ws ≡ by → Token by ws (next ws)
   token_next e = token_from by ws (begins_at by (λ w. subst IsWord (sym w) some) ws e)
 
-  pub spells_at : peek ws ≡ by → Spells by (spelling ws) ws (next ws)
+  pub spells_at : peek ws ≡ by → SpellsText by (spelling ws) ws (next ws)
   spells_at e = spells_from by ws (begins_at by (λ w. subst IsWord (sym w) some) ws e)
 
   pub gives_eat : {A : Type 0} (p q : Parser A) {Q : A → List Word → Type 0} → (Token by ws (after by ws) → Gives (p (after by ws)) Q) → (after by ws ≡ ws → Gives (q (after by ws)) Q) → Gives ((if sees by ws then p else q) (after by ws)) Q
@@ -88,7 +88,7 @@ module _ (by : Kind) (some : IsWord by) {ws : List Word} where
   unfolding expect
   gives_expect = gives_if (sees by ws) (λ e. gives_some (token_seen e)) (λ _. gives_none)
 
-  pub gives_text : Gives (parse.text by ws) (λ t a. Spells by t ws a)
+  pub gives_text : Gives (parse.text by ws) (λ t a. SpellsText by t ws a)
   unfolding parse.text
   gives_text = gives_if (sees by ws) (λ e. gives_some (spells_seen e)) (λ _. gives_none)
 
@@ -98,7 +98,7 @@ pub expect_at : {by : Kind} {ws a : List Word} → Token by ws a → expect by w
 unfolding expect
 expect_at {by} (token {w = w} {rest = rest} h) = rw (sees_yes by w rest h)
 
-pub text_at : {by : Kind} {t : List ℕ} {ws a : List Word} → Spells by t ws a → parse.text by ws ≡ Some (t, a)
+pub text_at : {by : Kind} {t : List ℕ} {ws a : List Word} → SpellsText by t ws a → parse.text by ws ≡ Some (t, a)
 unfolding parse.text
 text_at {by} (spells {w = w} {rest = rest} h) = rw (sees_yes by w rest h)
 
@@ -114,19 +114,19 @@ after_at {by} (token {w = w} {rest = rest} h) = after_is by (w ∷ rest) (sees_y
 pub peek_at : {by : Kind} {ws a : List Word} → Token by ws a → peek ws ≡ by
 peek_at (token h) = h
 
-pub peek_spelled : {by : Kind} {t : List ℕ} {ws a : List Word} → Spells by t ws a → peek ws ≡ by
+pub peek_spelled : {by : Kind} {t : List ℕ} {ws a : List Word} → SpellsText by t ws a → peek ws ≡ by
 peek_spelled (spells h) = h
 
-pub next_spelled : {by : Kind} {t : List ℕ} {ws a : List Word} → Spells by t ws a → next ws ≡ a
+pub next_spelled : {by : Kind} {t : List ℕ} {ws a : List Word} → SpellsText by t ws a → next ws ≡ a
 next_spelled (spells h) = refl
 
-pub spelling_at : {by : Kind} {t : List ℕ} {ws a : List Word} → Spells by t ws a → spelling ws ≡ t
+pub spelling_at : {by : Kind} {t : List ℕ} {ws a : List Word} → SpellsText by t ws a → spelling ws ≡ t
 spelling_at (spells h) = refl
 
-pub sees_spelled : {by : Kind} {t : List ℕ} {ws a : List Word} → Spells by t ws a → sees by ws ≡ true
+pub sees_spelled : {by : Kind} {t : List ℕ} {ws a : List Word} → SpellsText by t ws a → sees by ws ≡ true
 sees_spelled {by} (spells {w = w} {rest = rest} h) = sees_yes by w rest h
 
-pub below_spelled : {by : Kind} {t : List ℕ} {ws a : List Word} (f : Kind → ℕ) (b : ℕ) → Spells by t ws a → f by < b → Below f b ws
+pub below_spelled : {by : Kind} {t : List ℕ} {ws a : List Word} (f : Kind → ℕ) (b : ℕ) → SpellsText by t ws a → f by < b → Below f b ws
 below_spelled {by} f b (spells {w = w} {rest = rest} h) lt = below_at f b by w rest h lt
 
 pub below_token : {by : Kind} {ws a : List Word} (f : Kind → ℕ) (b : ℕ) → Token by ws a → f by < b → Below f b ws
@@ -135,7 +135,7 @@ below_token {by} f b (token {w = w} {rest = rest} h) lt = below_at f b by w rest
 pub shorter_token : {by : Kind} {ws a : List Word} → Token by ws a → length a < length ws
 shorter_token (token h) = omega arith
 
-pub shorter_spelled : {by : Kind} {t : List ℕ} {ws a : List Word} → Spells by t ws a → length a < length ws
+pub shorter_spelled : {by : Kind} {t : List ℕ} {ws a : List Word} → SpellsText by t ws a → length a < length ws
 shorter_spelled (spells h) = omega arith
 
 -- ---- lists

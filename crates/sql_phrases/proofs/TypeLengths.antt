@@ -10,16 +10,16 @@ use Rattle.sql_words.specs.declared.word.Word.{Word}
 use Rattle.sql_phrases.specs.Reading.{peek}
 use Rattle.sql_phrases.specs.Shapes.{absent, present}
 use Rattle.sql_phrases.specs.TypeRules as types
-use Rattle.sql_phrases.specs.TypeRules.{IsType, IsDefault, IsSpecial, IsNumber, IsBracketed, IsSize, IsPrecision}
+use Rattle.sql_phrases.specs.TypeRules.{SpellsType, SpellsDefault, SpellsSpecial, SpellsNumber, SpellsBracketed, SpellsSize, SpellsPrecision}
 use Rattle.sql_phrases.proofs.Lists.{peek_at, shorter_token, shorter_spelled}
 
-pub special_shorter : {s : Special} {ws rest : List Word} → IsSpecial s ws rest → length rest < length ws
+pub special_shorter : {s : Special} {ws rest : List Word} → SpellsSpecial s ws rest → length rest < length ws
 special_shorter (types.current_user t) = shorter_token t
 special_shorter (types.current_date t) = shorter_token t
 special_shorter (types.current_time t) = shorter_token t
 special_shorter (types.current_timestamp t) = shorter_token t
 
-pub default_shorter : {d : Default} {ws rest : List Word} → IsDefault d ws rest → length rest < length ws
+pub default_shorter : {d : Default} {ws rest : List Word} → SpellsDefault d ws rest → length rest < length ws
 default_shorter (types.literal s) = shorter_spelled s
 default_shorter (types.number absent s) = shorter_spelled s
 default_shorter (types.number (present t) s) = omega (arith, shorter_token t, shorter_spelled s)
@@ -28,7 +28,7 @@ default_shorter (types.false_word t) = shorter_token t
 default_shorter (types.null t) = shorter_token t
 default_shorter (types.special s) = special_shorter s
 
-pub number_shorter : {low high n : ℕ} {ws rest : List Word} → IsNumber low high n ws rest → length rest < length ws
+pub number_shorter : {low high n : ℕ} {ws rest : List Word} → SpellsNumber low high n ws rest → length rest < length ws
 number_shorter (types.number s d lo hi) = shorter_spelled s
 
 -- the words with which a type begins
@@ -68,19 +68,19 @@ no_name k.Timestamp e = refl
 no_name _ e = cc
 
 module _ (m : ℕ) where
-  pub bracketed_shorter : {low high n : ℕ} {ws rest : List Word} → IsBracketed m low high n ws rest → length rest < length ws
+  pub bracketed_shorter : {low high n : ℕ} {ws rest : List Word} → SpellsBracketed m low high n ws rest → length rest < length ws
   bracketed_shorter (types.bracketed lt l n r) = omega (arith, shorter_token l, number_shorter n, shorter_token r)
 
-  pub size_shorter : {without low high n : ℕ} {ws rest : List Word} → IsSize m without low high n ws rest → length rest ≤ length ws
+  pub size_shorter : {without low high n : ℕ} {ws rest : List Word} → SpellsSize m without low high n ws rest → length rest ≤ length ws
   size_shorter types.size_unsaid = omega arith
   size_shorter (types.size b) = omega (arith, bracketed_shorter b)
 
-  pub precision_shorter : {p s : ℕ} {ws rest : List Word} → IsPrecision m p s ws rest → length rest ≤ length ws
+  pub precision_shorter : {p s : ℕ} {ws rest : List Word} → SpellsPrecision m p s ws rest → length rest ≤ length ws
   precision_shorter types.precision_unsaid = omega arith
   precision_shorter (types.precision b) = omega (arith, bracketed_shorter b)
   precision_shorter (types.with_scale lt l n c q r) = omega (arith, shorter_token l, number_shorter n, shorter_token c, number_shorter q, shorter_token r)
 
-  pub type_shorter : {t : SqlType} {ws rest : List Word} → IsType m t ws rest → length rest < length ws
+  pub type_shorter : {t : SqlType} {ws rest : List Word} → SpellsType m t ws rest → length rest < length ws
   type_shorter (types.character (types.character_word t) n) = omega (arith, shorter_token t, size_shorter n)
   type_shorter (types.character (types.char_word t) n) = omega (arith, shorter_token t, size_shorter n)
   type_shorter (types.varchar t b) = omega (arith, shorter_token t, bracketed_shorter b)
@@ -98,7 +98,7 @@ module _ (m : ℕ) where
   type_shorter (types.time t n) = omega (arith, shorter_token t, size_shorter n)
   type_shorter (types.timestamp t n) = omega (arith, shorter_token t, size_shorter n)
 
-  pub type_begins : {t : SqlType} {ws rest : List Word} → IsType m t ws rest → begins_type (peek ws) ≡ true
+  pub type_begins : {t : SqlType} {ws rest : List Word} → SpellsType m t ws rest → begins_type (peek ws) ≡ true
   type_begins (types.character (types.character_word t) n) = ap begins_type (peek_at t)
   type_begins (types.character (types.char_word t) n) = ap begins_type (peek_at t)
   type_begins (types.varchar t b) = ap begins_type (peek_at t)
@@ -116,5 +116,5 @@ module _ (m : ℕ) where
   type_begins (types.time t n) = ap begins_type (peek_at t)
   type_begins (types.timestamp t n) = ap begins_type (peek_at t)
 
-  pub type_reserved : {t : SqlType} {ws rest : List Word} → IsType m t ws rest → is_name (peek ws) ≡ false
+  pub type_reserved : {t : SqlType} {ws rest : List Word} → SpellsType m t ws rest → is_name (peek ws) ≡ false
   type_reserved {ws = ws} t = no_name (peek ws) (type_begins t)

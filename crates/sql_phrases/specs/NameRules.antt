@@ -1,5 +1,6 @@
 -- Names and lists of names.
-use Rattle.std.specs.Prelude.{◌≡◌, ℕ, true, List, [], ◌∷◌}
+use Rattle.std.specs.Prelude.{◌≡◌, true, List, [], ◌∷◌}
+use Rattle.sql_names.specs.NameBytes.{NameBytes}
 use Rattle.sql_names.specs.Names.{IsName}
 use Rattle.sql_names.specs.declared.column.ObjectName.{ObjectName}
 use Rattle.sql_names.specs.declared.column.ObjectName.TheVariants as objects
@@ -7,27 +8,27 @@ use Rattle.sql_spelling.specs.Kinds.{is_name}
 use Rattle.sql_words.specs.Kinds.{kind_of, text_of}
 use Rattle.sql_spelling.specs.declared.kind.Kind.TheVariants as k
 use Rattle.sql_words.specs.declared.word.Word.{Word}
-use Rattle.sql_phrases.specs.Shapes.{Spelled, Token, Spells, Separated}
+use Rattle.sql_phrases.specs.Shapes.{Spelled, Token, SpellsText, Separated}
 
 -- name: a quoted word, or a plain one that isn't reserved
-pub data IsIdentifier : List ℕ → List Word → List Word → Type 0 where
-  identifier : {w : Word} {rest : List Word} → is_name (kind_of w) ≡ true → IsName (text_of w) → IsIdentifier (text_of w) (w ∷ rest) rest
+pub data SpellsIdentifier : NameBytes → List Word → List Word → Type 0 where
+  identifier : {w : Word} {rest : List Word} → is_name (kind_of w) ≡ true → IsName (text_of w) → SpellsIdentifier (text_of w) (w ∷ rest) rest
 
 -- a literal that stands for a name, byte for byte
-pub data IsLiteralName : List ℕ → List Word → List Word → Type 0 where
-  literal_name : {n : List ℕ} {ws rest : List Word} → Spells k.Literal n ws rest → IsName n → IsLiteralName n ws rest
+pub data SpellsLiteralName : NameBytes → List Word → List Word → Type 0 where
+  literal_name : {n : NameBytes} {ws rest : List Word} → SpellsText k.Literal n ws rest → IsName n → SpellsLiteralName n ws rest
 
 -- obj := name | name . name
-pub data IsObjectName : ObjectName → List Word → List Word → Type 0 where
-  unqualified : {n : List ℕ} {ws rest : List Word} → IsIdentifier n ws rest → IsObjectName (objects.Unqualified n) ws rest
-  qualified : {s n : List ℕ} {ws a b rest : List Word} → IsIdentifier s ws a → Token k.Period a b → IsIdentifier n b rest
-      → IsObjectName (objects.Qualified (record { schema = s; name = n })) ws rest
+pub data SpellsObjectName : ObjectName → List Word → List Word → Type 0 where
+  unqualified : {n : NameBytes} {ws rest : List Word} → SpellsIdentifier n ws rest → SpellsObjectName (objects.Unqualified n) ws rest
+  qualified : {s n : NameBytes} {ws a b rest : List Word} → SpellsIdentifier s ws a → Token k.Period a b → SpellsIdentifier n b rest
+      → SpellsObjectName (objects.Qualified (record { schema = s; name = n })) ws rest
 
 -- name,..
-abbrev pub IsIdentifiers : Spelled (List (List ℕ))
-IsIdentifiers = Separated k.Comma IsIdentifier
+abbrev pub SpellsIdentifiers : Spelled (List NameBytes)
+SpellsIdentifiers = Separated k.Comma SpellsIdentifier
 
 -- ['(' name,.. ')']
-pub data IsColumns : List (List ℕ) → List Word → List Word → Type 0 where
-  no_columns : {ws : List Word} → IsColumns [] ws ws
-  columns : {ns : List (List ℕ)} {ws a b rest : List Word} → Token k.LeftParen ws a → IsIdentifiers ns a b → Token k.RightParen b rest → IsColumns ns ws rest
+pub data SpellsColumns : List NameBytes → List Word → List Word → Type 0 where
+  no_columns : {ws : List Word} → SpellsColumns [] ws ws
+  columns : {ns : List NameBytes} {ws a b rest : List Word} → Token k.LeftParen ws a → SpellsIdentifiers ns a b → Token k.RightParen b rest → SpellsColumns ns ws rest

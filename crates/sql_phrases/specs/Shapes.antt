@@ -12,8 +12,8 @@ pub data Token (by : Kind) : List Word → List Word → Type 0 where
   token : {w : Word} {rest : List Word} → kind_of w ≡ by → Token by (w ∷ rest) rest
 
 -- one word of this kind, with its text
-pub data Spells (by : Kind) : List ℕ → List Word → List Word → Type 0 where
-  spells : {w : Word} {rest : List Word} → kind_of w ≡ by → Spells by (text_of w) (w ∷ rest) rest
+pub data SpellsText (by : Kind) : List ℕ → List Word → List Word → Type 0 where
+  spells : {w : Word} {rest : List Word} → kind_of w ≡ by → SpellsText by (text_of w) (w ∷ rest) rest
 
 -- x separator x .. separator x
 pub data Separated {A : Type 0} (by : Kind) (R : Spelled A) : List A → List Word → List Word → Type 0 where

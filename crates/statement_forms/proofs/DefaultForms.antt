@@ -13,7 +13,7 @@ use Rattle.sql_words.specs.declared.word.Symbol.TheVariants as s
 use Rattle.sql_words.specs.declared.word.Word.{Word}
 use Rattle.sql_words.specs.declared.word.Word.TheVariants as w
 use Rattle.sql_spelling.proofs.ReservedWords.{reserved-by-list, names-by-list}
-use Rattle.sql_phrases.specs.Shapes.{Spells, spells}
+use Rattle.sql_phrases.specs.Shapes.{SpellsText, spells}
 use Rattle.sql_phrases.specs.TypeRules as types
 use Rattle.cat_items.specs.Pieces.{AreResolved, IsResolved, IsNumber, default_pieces, of_literal, of_number}
 use Rattle.statement_forms.proofs.KeptWords.{kept_marked}
@@ -61,13 +61,13 @@ number-text (w.Quoted text) is e = cc
 number-text (w.Literal text) is e = cc
 number-text (w.Symbol symbol) is e = absurd (symbol-no_number symbol e)
 
-spelled-literal : {t : List ℕ} {ws rest : List Word} → Spells k.Literal t ws rest → AreWords ws → IsUtf8 t
+spelled-literal : {t : List ℕ} {ws rest : List Word} → SpellsText k.Literal t ws rest → AreWords ws → IsUtf8 t
 spelled-literal (spells {w = word} e) are = literal-text word are.0 e
 
-spelled-number : {t : List ℕ} {ws rest : List Word} → Spells k.Number t ws rest → AreWords ws → IsNumber t
+spelled-number : {t : List ℕ} {ws rest : List Word} → SpellsText k.Number t ws rest → AreWords ws → IsNumber t
 spelled-number (spells {w = word} e) are = number-text word are.0 e
 
-pub default-form : {d : Default} {ws rest : List Word} → types.IsDefault d ws rest → AreWords ws → AreResolved (default_pieces (Some d))
+pub default-form : {d : Default} {ws rest : List Word} → types.SpellsDefault d ws rest → AreWords ws → AreResolved (default_pieces (Some d))
 default-form (types.literal {t = t} l) are = All-cons IsResolved (of_literal t) [] (spelled-literal l are) (All-nil IsResolved)
 default-form (types.number {t = t} m n) are = All-cons IsResolved (of_number t) [] (spelled-number n (kept_marked m are)) (All-nil IsResolved)
 default-form (types.true_word t) are = All-nil IsResolved

@@ -9,24 +9,24 @@ use Rattle.cat_items.specs.Pieces.{IsType, ArePrecision}
 abbrev IsBetween : ℕ → ℕ → ℕ → Type 0
 IsBetween low high n = (low ≤ n) × (n ≤ high)
 
-number-range : {low high n : ℕ} {ws rest : List Word} → types.IsNumber low high n ws rest → IsBetween low high n
+number-range : {low high n : ℕ} {ws rest : List Word} → types.SpellsNumber low high n ws rest → IsBetween low high n
 number-range (types.number s digits low high) = (low, high)
 
 module _ {m : ℕ} where
-  bracketed-range : {low high n : ℕ} {ws rest : List Word} → types.IsBracketed m low high n ws rest → IsBetween low high n
+  bracketed-range : {low high n : ℕ} {ws rest : List Word} → types.SpellsBracketed m low high n ws rest → IsBetween low high n
   bracketed-range (types.bracketed lt l n r) = number-range n
 
   -- where it is left out too
-  size-range : {without low high n : ℕ} {ws rest : List Word} → IsBetween low high without → types.IsSize m without low high n ws rest → IsBetween low high n
+  size-range : {without low high n : ℕ} {ws rest : List Word} → IsBetween low high without → types.SpellsSize m without low high n ws rest → IsBetween low high n
   size-range unsaid types.size_unsaid = unsaid
   size-range unsaid (types.size b) = bracketed-range b
 
-  precision-range : {p s : ℕ} {ws rest : List Word} → types.IsPrecision m p s ws rest → ArePrecision p s
+  precision-range : {p s : ℕ} {ws rest : List Word} → types.SpellsPrecision m p s ws rest → ArePrecision p s
   precision-range types.precision_unsaid = (omega arith, omega arith, omega arith)
   precision-range (types.precision b) = let between = bracketed-range b in (between.0, between.1, omega arith)
   precision-range (types.with_scale lt l p c s r) = let between = number-range p in (between.0, between.1, (number-range s).1)
 
-  pub type-form : {t : SqlType} {ws rest : List Word} → types.IsType m t ws rest → IsType t
+  pub type-form : {t : SqlType} {ws rest : List Word} → types.SpellsType m t ws rest → IsType t
   type-form (types.character w n) = size-range (omega arith, omega arith) n
   type-form (types.varchar w n) = bracketed-range n
   type-form (types.varying w v n) = bracketed-range n
