@@ -5,6 +5,7 @@ ghost use Rattle.cat_items.specs.Good.{IsGood};
 ghost use Rattle.catalogue_edits.specs.Statements.{IsBuiltEdit};
 ghost use Rattle.define_edit.specs.Creations.{HasForms};
 
+use crate::cases::{CYCLE, EDITS, GRANTED, RESTING, ROLES};
 use cat_engine::{Book, Reply};
 use cat_items::{
     Auth, Catalogue, Edit, EditError, Item, Limits, Marks, Shared, View, Who, find, item_text,
@@ -42,33 +43,17 @@ fn book(alloc: Global) -> Result<Book, Fail> {
 }
 
 /// The statement that a text is.
-fn tree_of(alloc: Global, text: &[u8]) -> Result<Statement, Fail> {
-    let Ok(words) = words(alloc, text) else {
-        return Err("no words")?;
-    };
-    match statement(alloc, &words) {
-        Ok(tree) => Ok(tree),
-        Err(_) => Err("no tree")?,
-    }
-}
-
-/// The statement that a text is, which edits a catalogue.
 fn read(alloc: Global, text: &[u8]) -> Result<Statement, Fail>
-    ensures built { IfOk result IsBuiltEdit }
     ensures forms { IfOk result HasForms }
 {
     let words = match words(alloc, text) {
         Ok(words) => words,
         Err(_) => return Err(Fail::from("no words")),
     };
-    let tree = match statement(alloc, &words) {
-        Ok(tree) => tree,
-        Err(_) => return Err(Fail::from("no tree")),
-    };
-    if !is_edit(&tree) {
-        return Err(Fail::from("no edit"));
+    match statement(alloc, &words) {
+        Ok(tree) => Ok(tree),
+        Err(_) => Err(Fail::from("no tree")),
     }
-    Ok(tree)
 }
 
 fn edit_of(
@@ -101,6 +86,9 @@ fn counted(alloc: Global, book: &Book, text: &str) -> Result<String, Fail> {
     let Some(who) = book.who(0) else {
         return Err("no connection")?;
     };
+    if !is_edit(&statement) {
+        return Err("nothing to edit")?;
+    }
     let Ok(edit) = edit_of(alloc, book.catalogue(), who, &statement) else {
         return Err("no edit")?;
     };
@@ -143,68 +131,11 @@ fn book_of(rt: &impl Abort, alloc: Global, script: &str) -> Result<Book, Fail> {
     book_after::<Brand>(rt, alloc, Blank::new(1), script)
 }
 
-/// Of tables: 3 columns, 2 keys and 2 foreign keys; 1 column and 1 foreign key. Of a GRANT: held and with grant option, on the
-/// table and on each column. Of the role: its grant and its admin option; what goes with it: 3 grants, 2 admin options and 2
-/// rights. What goes with tables: their parts, 9 and 17 rights, each held and with grant option, and the one of PUBLIC.
-const EDITS: &str = "CONNECT TO 'D' USER 'ALICE'
-CREATE SCHEMA ALICE => 0 1
-CREATE SCHEMA S AUTHORIZATION ALICE => 0 1
-CREATE TABLE T (K INTEGER PRIMARY KEY, P INTEGER REFERENCES T, N VARCHAR(9) DEFAULT 'X' CONSTRAINT U UNIQUE, CONSTRAINT F FOREIGN KEY (P) REFERENCES T (K) ON DELETE CASCADE) => 0 8
-CREATE TABLE S.V (A INTEGER NOT NULL REFERENCES T (K)) => 0 3
-GRANT SELECT ON T TO BOB WITH GRANT OPTION => 0 8
-CREATE ROLE R => 0 3
-GRANT R TO BOB, CAROL WITH ADMIN OPTION => 0 4
-GRANT UPDATE (P), DELETE ON T TO R, PUBLIC => 0 4
-REVOKE DELETE ON T FROM PUBLIC => 1 0
-REVOKE SELECT ON T FROM BOB => 8 0
-REVOKE ADMIN OPTION FOR R FROM BOB => 1 0
-DROP ROLE R => 8 0
-DROP TABLE S.V => 21 0
-DROP TABLE T => 43 0";
-
 #[test]
 fn edits_destroy_and_add_so_many_items(rt: HostRuntime) -> Result<(), Fail> {
     book_of(&rt, rt.alloc(), EDITS)?;
     Ok(())
 }
-
-/// BOB and CAROL grant SELECT to each other, and ALICE takes hers from BOB and leaves it to CAROL.
-const CYCLE: &str = "CONNECT TO 'D' AS 'C' USER 'CAROL'
-CREATE SCHEMA CAROL
-CONNECT TO 'D' AS 'B' USER 'BOB'
-CREATE SCHEMA BOB
-CONNECT TO 'D' AS 'A' USER 'ALICE'
-CREATE SCHEMA ALICE
-CREATE TABLE T (X INTEGER, Y INTEGER) => 0 3
-GRANT SELECT ON T TO BOB WITH GRANT OPTION => 0 6
-SET CONNECTION 'B'
-GRANT SELECT ON ALICE.T TO CAROL WITH GRANT OPTION => 0 6
-SET CONNECTION 'C'
-GRANT SELECT ON ALICE.T TO BOB WITH GRANT OPTION => 0 6
-SET CONNECTION 'A'
-GRANT SELECT ON T TO CAROL WITH GRANT OPTION => 0 6
-REVOKE SELECT ON T FROM BOB CASCADE => 6 0";
-
-/// What users granted then.
-const GRANTED: &str = "SELECT ON TABLE ALICE.T BY ALICE TO CAROL
-SELECT ON TABLE ALICE.T BY BOB TO CAROL
-SELECT ON TABLE ALICE.T BY CAROL TO BOB
-SELECT ON COLUMN ALICE.T.X BY ALICE TO CAROL
-SELECT ON COLUMN ALICE.T.X BY BOB TO CAROL
-SELECT ON COLUMN ALICE.T.X BY CAROL TO BOB
-SELECT ON COLUMN ALICE.T.Y BY ALICE TO CAROL
-SELECT ON COLUMN ALICE.T.Y BY BOB TO CAROL
-SELECT ON COLUMN ALICE.T.Y BY CAROL TO BOB
-GRANT OPTION SELECT ON TABLE ALICE.T BY ALICE TO CAROL
-GRANT OPTION SELECT ON TABLE ALICE.T BY BOB TO CAROL
-GRANT OPTION SELECT ON TABLE ALICE.T BY CAROL TO BOB
-GRANT OPTION SELECT ON COLUMN ALICE.T.X BY ALICE TO CAROL
-GRANT OPTION SELECT ON COLUMN ALICE.T.X BY BOB TO CAROL
-GRANT OPTION SELECT ON COLUMN ALICE.T.X BY CAROL TO BOB
-GRANT OPTION SELECT ON COLUMN ALICE.T.Y BY ALICE TO CAROL
-GRANT OPTION SELECT ON COLUMN ALICE.T.Y BY BOB TO CAROL
-GRANT OPTION SELECT ON COLUMN ALICE.T.Y BY CAROL TO BOB
-";
 
 /// Whether an item is a right that a user or role granted.
 fn is_granted(x: &Item) -> bool {
@@ -266,7 +197,7 @@ fn put(c: &mut Catalogue, item: Item) -> Result<(), AllocError> {
 }
 
 /// How many items fall where those whose texts begin so are gone.
-fn fallen(alloc: Global, c: &Catalogue, front: &str) -> Result<usize, Fail> {
+fn fallen(alloc: Global, c: &Catalogue, front: &str) -> Result<String, Fail> {
     let mut left = Catalogue::of_sorted(Vec::new(alloc));
     for x in c.items() {
         if !item_text(alloc, x)?.bytes().starts_with(front.as_bytes()) {
@@ -274,40 +205,23 @@ fn fallen(alloc: Global, c: &Catalogue, front: &str) -> Result<usize, Fail> {
         }
     }
     let kept = survivors(alloc, &left)?;
-    Ok(left.items().len().saturating_sub(kept.items().len()))
+    let count = left.items().len().saturating_sub(kept.items().len());
+    Ok(format!(in alloc; "{count}")?)
 }
-
-/// Items of a catalogue, and how many others rest on them.
-const RESTING: [(&str, usize); 8] = [
-    ("SCHEMA ALICE", 47),
-    ("COLUMN ALICE.T.X", 14),
-    // a table without columns, with all rights on it
-    ("COLUMN ALICE.T.", 45),
-    // the user's schema, and what the other user got by this one
-    ("USER CAROL", 19),
-    ("SELECT ON TABLE ALICE.T BY ALICE TO CAROL", 5),
-    ("GRANT OPTION SELECT ON TABLE ALICE.T BY ALICE TO CAROL", 4),
-    ("GRANT OPTION SELECT ON TABLE ALICE.T BY BOB TO CAROL", 0),
-    ("GRANT OPTION SELECT ON TABLE ALICE.T BY CAROL TO BOB", 2),
-];
 
 #[test]
 fn what_rests_on_an_item_falls_with_it(rt: HostRuntime) -> Result<(), Fail> {
     let book = book_of(&rt, rt.alloc(), CYCLE)?;
-    for (front, count) in RESTING {
+    for row in RESTING.lines() {
+        let (front, count) = row.split_once(" => ").ok_or("no count")?;
         assert_eq!(rt;
-            fallen(rt.alloc(), book.catalogue(), front)?,
+            fallen(rt.alloc(), book.catalogue(), front)?.as_str(),
             count,
             "{front}"
         );
     }
     Ok(())
 }
-
-const ROLES: &str = "CONNECT TO 'D' USER 'ALICE'
-CREATE ROLE R1 => 0 3
-CREATE ROLE R2 => 0 3
-GRANT R2 TO R1 => 0 1";
 
 /// Whether one reaches another, by all grants and by all that are marked.
 fn reach(alloc: Global, c: &Catalogue, from: &str, to: &str) -> Result<[bool; 2], Fail> {
@@ -361,7 +275,7 @@ fn roles_are_reached_one_from_another(rt: HostRuntime) -> Result<(), Fail> {
 }
 
 fn view(alloc: Global) -> Result<Item, Fail> {
-    let tree = tree_of(alloc, b"CREATE VIEW V AS SELECT * FROM T")?;
+    let tree = read(alloc, b"CREATE VIEW V AS SELECT * FROM T")?;
     let Statement::CreateView(made) = &tree else {
         return Err("no view")?;
     };

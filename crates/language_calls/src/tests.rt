@@ -1,30 +1,30 @@
 use crate::shop::SHOP;
 use crate::statements::{REFUSED, STATEMENTS};
 use crate::texts::{CONDITIONS, EXPRESSIONS, NAMES, QUERIES, STREAMS, WORDS};
-use sql_expressions::{expr, query};
 use sql_grammar::{GrammarError, statement};
-use sql_phrases::Reader;
 use sql_text::{print_body, print_expr, print_name, print_query};
-use sql_tree::{Behaviour, Expr, Name, Query, Statement, Text};
+use sql_tree::{Behaviour, Name, Statement, Text};
 use sql_words::{Fed, Splitter, Word, WordsError, words};
-use std::alloc::Global;
+use std::alloc::{AllocError, Global};
 use std::process::Abort;
 use std::test::Fail;
 
-/// How many brackets may be open at one word, plus one.
-const DEPTH: usize = 65;
-
-/// What the texts of a table are.
+/// What the texts of a table are: a part of a statement stands between two texts that make it whole.
 #[derive(Clone, Copy)]
 enum Kind {
     Words,
     Stream,
     Name,
-    Expression,
-    Condition,
-    Query,
-    Statement,
+    Part(&'static str, &'static str),
 }
+
+const STATEMENT: Kind = Kind::Part("", "");
+
+const EXPRESSION: Kind = Kind::Part("CREATE ASSERTION N CHECK (", ")");
+
+const CONDITION: Kind = Kind::Part("CREATE DOMAIN N INTEGER CHECK (", ")");
+
+const QUERY: Kind = Kind::Part("CREATE VIEW N AS ", "");
 
 /// The bytes that a text stands for: a line feed for `¶`, and else each character's number.
 fn bytes_of(alloc: Global, text: &str) -> Result<Text, Fail> {
@@ -122,107 +122,49 @@ fn told_name(alloc: Global, text: &[u8]) -> Result<Text, Fail> {
     }
 }
 
-fn refused(alloc: Global, error: GrammarError) -> Result<Text, Fail> {
-    match error {
-        GrammarError::Syntax => said(alloc, "syntax"),
-        GrammarError::NotInProfile => said(alloc, "not in profile"),
-        GrammarError::Memory => Err("memory")?,
-    }
-}
-
-fn shown_expression(alloc: Global, tree: &Expr) -> Result<Text, Fail> {
-    let copy = tree.copy(alloc)?;
-    if copy.same(tree) {
-        Ok(print_expr(alloc, &copy)?)
-    } else {
-        said(alloc, "another tree")
-    }
-}
-
-fn told_expression(alloc: Global, text: &[u8], value: bool) -> Result<Text, Fail> {
-    let Ok(found) = words(alloc, text) else {
-        return said(alloc, "no words");
-    };
-    let mut left = Reader::new(found.as_slice());
-    match expr(alloc, &mut left, DEPTH, value) {
-        Ok(tree) => {
-            if left.len() == 0 {
-                shown_expression(alloc, &tree)
-            } else {
-                said(alloc, "words are left")
-            }
-        }
-        Err(error) => refused(alloc, error),
-    }
-}
-
-fn shown_query(alloc: Global, tree: &Query) -> Result<Text, Fail> {
-    let copy = tree.copy(alloc)?;
-    if copy.same(tree) {
-        Ok(print_query(alloc, &copy)?)
-    } else {
-        said(alloc, "another tree")
-    }
-}
-
-fn told_query(alloc: Global, text: &[u8]) -> Result<Text, Fail> {
-    let Ok(found) = words(alloc, text) else {
-        return said(alloc, "no words");
-    };
-    let mut left = Reader::new(found.as_slice());
-    match query(alloc, &mut left, DEPTH, false) {
-        Ok(tree) => {
-            if left.len() == 0 {
-                shown_query(alloc, &tree)
-            } else {
-                said(alloc, "words are left")
-            }
-        }
-        Err(error) => refused(alloc, error),
-    }
-}
-
-fn shown_behaviour(alloc: Global, behaviour: Behaviour) -> Result<Text, Fail> {
-    said(
-        alloc,
-        match behaviour {
-            Behaviour::Restrict => "RESTRICT",
-            Behaviour::Cascade => "CASCADE",
-        },
-    )
-}
-
 /// The behaviour of a statement, or the query, condition or body that it defines.
-fn shown_part(alloc: Global, tree: &Statement) -> Result<Text, Fail> {
-    Ok(match tree {
-        Statement::CreateView(view) => print_query(alloc, &view.query)?,
-        Statement::CreateAssertion(assertion) => print_expr(alloc, &assertion.condition)?,
-        Statement::CreateFunction(function) => print_body(alloc, &function.body)?,
-        Statement::CreateProcedure(procedure) => print_body(alloc, &procedure.body)?,
+fn shown(alloc: Global, tree: &Statement) -> Result<Text, AllocError> {
+    match tree {
+        Statement::CreateView(view) => print_query(alloc, &view.query),
+        Statement::CreateAssertion(assertion) => print_expr(alloc, &assertion.condition),
+        Statement::CreateFunction(function) => print_body(alloc, &function.body),
+        Statement::CreateProcedure(procedure) => print_body(alloc, &procedure.body),
         Statement::CreateDomain(domain) => match domain.checks.as_slice() {
-            [check, ..] => print_expr(alloc, &check.condition)?,
-            [] => Text::new(alloc),
+            [check, ..] => print_expr(alloc, &check.condition),
+            [] => Text::of(alloc, b"tree"),
         },
-        Statement::DropObject(dropped) => shown_behaviour(alloc, dropped.behaviour)?,
-        Statement::DropSchema { behaviour, .. } => shown_behaviour(alloc, *behaviour)?,
-        _ => Text::new(alloc),
-    })
+        Statement::DropObject(dropped) => shown_behaviour(alloc, dropped.behaviour),
+        Statement::DropSchema { behaviour, .. } => shown_behaviour(alloc, *behaviour),
+        _ => Text::of(alloc, b"tree"),
+    }
 }
 
+fn shown_behaviour(alloc: Global, behaviour: Behaviour) -> Result<Text, AllocError> {
+    match behaviour {
+        Behaviour::Restrict => Text::of(alloc, b"RESTRICT"),
+        Behaviour::Cascade => Text::of(alloc, b"CASCADE"),
+    }
+}
+
+/// What the copy of a statement's tree shows, or the refusal.
 fn told_statement(alloc: Global, text: &[u8]) -> Result<Text, Fail> {
     let Ok(found) = words(alloc, text) else {
-        return said(alloc, "no words");
+        return Err("no words")?;
     };
     match statement(alloc, &found) {
-        Ok(tree) => {
-            let part = shown_part(alloc, &tree.copy(alloc)?)?;
-            let mut out = said(alloc, "tree")?;
-            out.push_all(if part.bytes().is_empty() { b"" } else { b" " })?;
-            out.push_all(part.bytes())?;
-            Ok(out)
-        }
-        Err(error) => refused(alloc, error),
+        Ok(tree) => Ok(shown(alloc, &tree.copy(alloc)?)?),
+        Err(GrammarError::Syntax) => said(alloc, "syntax"),
+        Err(GrammarError::NotInProfile) => said(alloc, "not in profile"),
+        Err(GrammarError::Memory) => Err("memory")?,
     }
+}
+
+fn told_part(alloc: Global, parts: [&[u8]; 3]) -> Result<Text, Fail> {
+    let mut text = Text::new(alloc);
+    for part in parts {
+        text.push_all(part)?;
+    }
+    told_statement(alloc, text.bytes())
 }
 
 fn told(alloc: Global, kind: Kind, text: &[u8]) -> Result<Text, Fail> {
@@ -230,10 +172,7 @@ fn told(alloc: Global, kind: Kind, text: &[u8]) -> Result<Text, Fail> {
         Kind::Words => told_words(alloc, text),
         Kind::Stream => told_stream(alloc, text),
         Kind::Name => told_name(alloc, text),
-        Kind::Expression => told_expression(alloc, text, false),
-        Kind::Condition => told_expression(alloc, text, true),
-        Kind::Query => told_query(alloc, text),
-        Kind::Statement => told_statement(alloc, text),
+        Kind::Part(front, back) => told_part(alloc, [front.as_bytes(), text, back.as_bytes()]),
     }
 }
 
@@ -256,36 +195,37 @@ fn texts_have_their_words_and_ends(rt: HostRuntime) -> Result<(), Fail> {
 #[test]
 fn names_expressions_and_queries_are_printed(rt: HostRuntime) -> Result<(), Fail> {
     hold(&rt, rt.alloc(), Kind::Name, NAMES)?;
-    hold(&rt, rt.alloc(), Kind::Expression, EXPRESSIONS)?;
-    hold(&rt, rt.alloc(), Kind::Condition, CONDITIONS)?;
-    hold(&rt, rt.alloc(), Kind::Query, QUERIES)
+    hold(&rt, rt.alloc(), EXPRESSION, EXPRESSIONS)?;
+    hold(&rt, rt.alloc(), CONDITION, CONDITIONS)?;
+    hold(&rt, rt.alloc(), QUERY, QUERIES)
 }
 
 #[test]
 fn each_kind_of_statement_has_a_tree(rt: HostRuntime) -> Result<(), Fail> {
-    hold(&rt, rt.alloc(), Kind::Statement, STATEMENTS)
+    hold(&rt, rt.alloc(), STATEMENT, STATEMENTS)
 }
 
 #[test]
 fn a_broken_rule_is_refused(rt: HostRuntime) -> Result<(), Fail> {
-    hold(&rt, rt.alloc(), Kind::Statement, REFUSED)
+    hold(&rt, rt.alloc(), STATEMENT, REFUSED)
 }
 
-/// What is nested in itself: what opens it, what stands inside, what closes it, and how often that may be.
+/// What is nested in itself: what opens it, what stands inside, what closes it, and how often that may be in a CHECK.
 const NESTS: [(&str, &str, &str, usize); 11] = [
-    ("(", "A", ")", 64),
-    ("F(", "A", ")", 64),
-    ("MAX(", "A", ")", 64),
-    ("- (", "A OR (B)", ") AND (C)", 63),
-    ("A IN (", "A", ")", 64),
-    ("CASE WHEN A THEN ", "A", " END", 64),
-    ("CAST(", "A", " AS TIME(0))", 63),
-    ("(SELECT A FROM T WHERE ", "A", ")", 64),
-    ("(", "COUNT(*)", ")", 63),
-    ("(", "CAST(A AS TIME)", ")", 63),
-    ("(", "CAST(A AS TIME(0))", ")", 62),
+    ("(", "A", ")", 63),
+    ("F(", "A", ")", 63),
+    ("MAX(", "A", ")", 63),
+    ("- (", "A OR (B)", ") AND (C)", 62),
+    ("A IN (", "A", ")", 63),
+    ("CASE WHEN A THEN ", "A", " END", 63),
+    ("CAST(", "A", " AS TIME(0))", 62),
+    ("(SELECT A FROM T WHERE ", "A", ")", 63),
+    ("(", "COUNT(*)", ")", 62),
+    ("(", "CAST(A AS TIME)", ")", 62),
+    ("(", "CAST(A AS TIME(0))", ")", 61),
 ];
 
+/// What a text gives that is nested so many times.
 fn nested(alloc: Global, times: usize, parts: [&str; 3]) -> Result<Text, Fail> {
     let mut text = Text::new(alloc);
     for _ in 0..times {
@@ -295,27 +235,22 @@ fn nested(alloc: Global, times: usize, parts: [&str; 3]) -> Result<Text, Fail> {
     for _ in 0..times {
         text.push_all(parts[2].as_bytes())?;
     }
-    told_expression(alloc, text.bytes(), false)
+    told(alloc, EXPRESSION, text.bytes())
 }
 
 #[test]
 fn a_65th_open_bracket_is_refused(rt: HostRuntime) -> Result<(), Fail> {
     let alloc = rt.alloc();
     for (open, inner, close, most) in NESTS {
-        let parts = [open, inner, close];
-        let fits = nested(alloc, most, parts)?;
-        let over = nested(alloc, most + 1, parts)?;
-        let syntax = b"syntax".as_slice();
-        assert_eq!(rt;
-            (fits.bytes() == syntax, over.bytes()),
-            (false, syntax),
-            "{open}"
-        );
+        let fits = nested(alloc, most, [open, inner, close])?;
+        let over = nested(alloc, most + 1, [open, inner, close])?;
+        let refused = [utf8(&fits) == "syntax", utf8(&over) == "syntax"];
+        assert_eq!(rt; refused, [false, true], "{open}");
     }
     Ok(())
 }
 
-/// How many statements a script has, where each has a tree.
+/// How many statements a script has before the first that is refused.
 fn trees_of(alloc: Global, script: &[u8]) -> Result<usize, Fail> {
     let mut splitter = Splitter::new(alloc)?;
     let mut rest = script;
@@ -323,11 +258,8 @@ fn trees_of(alloc: Global, script: &[u8]) -> Result<usize, Fail> {
         let Fed::Statement { used } = splitter.feed(rest) else {
             return Ok(count);
         };
-        if !told_statement(alloc, splitter.statement())?
-            .bytes()
-            .starts_with(b"tree")
-        {
-            return Err("no tree")?;
+        if utf8(&told_statement(alloc, splitter.statement())?) == "syntax" {
+            return Ok(count);
         }
         rest = &rest[used..];
     }

@@ -194,8 +194,8 @@ CURRENT_ROLE => syntax
 VALUE => syntax
 A = VALUE => syntax
 (SELECT VALUE FROM T) => syntax
-A B => words are left
-A.B.C => words are left
+A B => syntax
+A.B.C => syntax
 A.* => syntax
 SELECT => syntax
 () => syntax
@@ -223,7 +223,7 @@ EXISTS (A) => syntax
 - - A => syntax
 + A => syntax
 A + => syntax
-A = B = C => words are left
+A = B = C => syntax
 A IS TRUE => syntax
 A NOT NULL => syntax
 A NOT = B => syntax
@@ -240,7 +240,7 @@ A = (SELECT B FROM T => syntax";
 pub const CONDITIONS: &str = "VALUE
 VALUE > 0 AND VALUE IN (SELECT A FROM T WHERE A = VALUE)
 CASE WHEN VALUE THEN (VALUE) END
-VALUE(A) => words are left
+VALUE(A) => syntax
 T.VALUE => syntax";
 
 /// Queries, and how they are printed.
@@ -279,13 +279,13 @@ SELECT A FROM => syntax
 SELECT A FROM (SELECT B FROM T) => syntax
 SELECT A FROM T, => syntax
 SELECT A FROM T JOIN U => syntax
-SELECT A FROM T CROSS JOIN U ON B => words are left
+SELECT A FROM T CROSS JOIN U ON B => syntax
 SELECT A FROM T INNER U ON B => syntax
-SELECT A FROM T ON B => words are left
+SELECT A FROM T ON B => syntax
 SELECT A FROM T WHERE => syntax
 SELECT A FROM T GROUP A => syntax
-SELECT A FROM T GROUP BY A + 1 => words are left
-SELECT A FROM T GROUP BY A WHERE B => words are left
+SELECT A FROM T GROUP BY A + 1 => syntax
+SELECT A FROM T GROUP BY A WHERE B => syntax
 SELECT A FROM T UNION => syntax
 SELECT A FROM T UNION DISTINCT SELECT B FROM U => syntax
 SELECT A FROM T UNION (SELECT B FROM U) => syntax

@@ -41,59 +41,35 @@ fn replies_of<L: Ledger>(
     Ok(sink)
 }
 
-fn limits(items: u32, columns: u32, journal: u64) -> Limits {
-    Limits {
-        items,
-        columns,
-        journal,
-        stream: 1_000,
-    }
-}
-
-/// Statements of 27, 15 and 15 bytes.
+/// Statements of 27, 15 and 15 bytes, each of which takes 64 bytes more in a journal.
 const SCHEMAS: &str = "CONNECT TO 'D' USER 'ALICE'
 CREATE SCHEMA S
-CREATE SCHEMA T
-CREATE SCHEMA S";
+CREATE SCHEMA T";
 
 const TABLES: &str = "CONNECT TO 'D' USER 'ALICE'
 CREATE SCHEMA ALICE
 CREATE TABLE T (A INTEGER)
-CREATE TABLE U (A INTEGER, B DATE)
-DROP TABLE T";
+CREATE TABLE U (A INTEGER, B DATE)";
 
-/// The most items, columns and bytes of a journal, where each statement takes 64 and its text, with a script and its replies.
+/// The most items, columns and bytes of a journal, a script and its replies.
 const FULL: [(u32, u32, u64, &str, &str); 6] = [
-    (99, 99, 999, SCHEMAS, "OK\nOK\nOK\nERR 10 42000 S\n"),
-    (
-        99,
-        99,
-        169,
-        SCHEMAS,
-        "OK\nERR 20 Y0020 91\nERR 20 Y0020 91\nERR 20 Y0020 91\n",
-    ),
-    (
-        99,
-        99,
-        170,
-        SCHEMAS,
-        "OK\nOK\nERR 20 Y0020 170\nERR 20 Y0020 170\n",
-    ),
-    (
-        2,
-        99,
-        999,
-        SCHEMAS,
-        "OK\nOK\nERR 19 Y0019 3\nERR 10 42000 S\n",
-    ),
-    (99, 1, 999, TABLES, "OK\nOK\nOK\nERR 19 Y0019 2\nOK\n"),
-    (99, 2, 999, TABLES, "OK\nOK\nOK\nOK\nOK\n"),
+    (9, 9, 249, SCHEMAS, "OK\nOK\nOK\n"),
+    (9, 9, 248, SCHEMAS, "OK\nOK\nERR 20 Y0020 170\n"),
+    (9, 9, 169, SCHEMAS, "OK\nERR 20 Y0020 91\nERR 20 Y0020 91\n"),
+    (2, 9, 999, SCHEMAS, "OK\nOK\nERR 19 Y0019 3\n"),
+    (99, 1, 999, TABLES, "OK\nOK\nOK\nERR 19 Y0019 2\n"),
+    (99, 2, 999, TABLES, "OK\nOK\nOK\nOK\n"),
 ];
 
 #[test]
 fn books_are_full(rt: HostRuntime) -> Result<(), Fail> {
     for (items, columns, journal, script, replies) in FULL {
-        let limits = limits(items, columns, journal);
+        let limits = Limits {
+            items,
+            columns,
+            journal,
+            stream: 999,
+        };
         let sink = replies_of::<Brand>(rt.alloc(), Blank::new(1), limits, script)?;
         assert_eq!(rt;
             sink.bytes(),
@@ -112,84 +88,36 @@ fn command_line(alloc: Global, list: &str) -> Result<Vec<String>, AllocError> {
         .try_collect(alloc)
 }
 
-/// A source of two pieces, whose takes with this number fails.
-fn source_of(alloc: Global, pieces: [&str; 2], failing: u64) -> Result<MemSource, AllocError> {
-    let mut all = Vec::new(alloc);
-    for piece in pieces {
-        all.push(Vec::from_slice(alloc, piece.as_bytes())?)?;
-    }
-    let mut fails = Vec::new(alloc);
-    fails.push(failing)?;
-    Ok(MemSource::new(all, fails))
-}
+const INPUT: [&[u8]; 2] = [b"CONNECT TO 'D' USER 'A';", b" CREATE SCHEMA S;"];
 
-const CONNECT: &str = "CONNECT TO 'D' USER 'A';";
-
-/// Two pieces of input, the take and the put that fail, how much room the output has, and what is written.
-const RUNS: [([&str; 2], u64, u64, usize, &str, Status); 6] = [
-    (
-        [CONNECT, " CREATE SCHEMA S;"],
-        9,
-        9,
-        99,
-        "OK\nOK\n",
-        Status::Done,
-    ),
-    (
-        [CONNECT, " CREATE SCHEMA S;"],
-        1,
-        9,
-        99,
-        "",
-        Status::ReadFault,
-    ),
-    (
-        [CONNECT, " CREATE SCHEMA S;"],
-        2,
-        9,
-        99,
-        "OK\n",
-        Status::ReadFault,
-    ),
-    (
-        [CONNECT, " CREATE SCHEMA S;"],
-        3,
-        9,
-        99,
-        "OK\nOK\n",
-        Status::ReadFault,
-    ),
-    (
-        [CONNECT, " CREATE SCHEMA S;"],
-        9,
-        3,
-        99,
-        "OK\n",
-        Status::WriteFault,
-    ),
-    (
-        [CONNECT, " CREATE SCHEMA S;"],
-        9,
-        9,
-        4,
-        "OK\nO",
-        Status::WriteFault,
-    ),
+/// The take and the put that fail, how much room the output has, and what is written of the replies to the input.
+const RUNS: [(u64, u64, usize, &str, Status); 6] = [
+    (9, 9, 99, "OK\nOK\n", Status::Done),
+    (1, 9, 99, "", Status::ReadFault),
+    (2, 9, 99, "OK\n", Status::ReadFault),
+    (3, 9, 99, "OK\nOK\n", Status::ReadFault),
+    (9, 3, 99, "OK\n", Status::WriteFault),
+    (9, 9, 4, "OK\nO", Status::WriteFault),
 ];
+
+fn source_of(alloc: Global, failing: u64) -> Result<MemSource, AllocError> {
+    let mut pieces = Vec::new(alloc);
+    for piece in INPUT {
+        pieces.push(piece.to_vec(alloc)?)?;
+    }
+    Ok(MemSource::new(pieces, [failing].to_vec(alloc)?))
+}
 
 #[test]
 fn faults_end_a_script(rt: HostRuntime) -> Result<(), Fail> {
     let alloc = rt.alloc();
     let words = command_line(alloc, "A")?;
-    for (pieces, take, put, room, output, status) in RUNS {
-        let mut source = source_of(alloc, pieces, take)?;
+    for (take, put, room, output, status) in RUNS {
+        let mut source = source_of(alloc, take)?;
         let mut sink = MemSink::new(alloc, 2, room, [put].to_vec(alloc)?)?;
         let ended = top(alloc, &words, &mut source, &mut sink);
-        assert_eq!(rt;
-            (ended, sink.bytes()),
-            (status, output.as_bytes()),
-            "{take} {put} {room}"
-        );
+        let wanted = (status, output.as_bytes());
+        assert_eq!(rt; (ended, sink.bytes()), wanted, "{take} {put} {room}");
     }
     Ok(())
 }

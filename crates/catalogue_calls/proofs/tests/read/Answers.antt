@@ -1,5 +1,5 @@
 use Rattle.catalogue_calls.proofs.Forms.{forms}
 use Rattle.catalogue_calls.proofs.tests.read.Goals as goal
 
-pub returns-clause-forms : goal.returns-clause-forms
+pub returns-clause-forms : goal.returns-clause-0
 returns-clause-forms c = forms c.args.text.now c.in-Ok.words.items c.in-Ok-statement.tree c.in-Ok.ensures c.in-Ok-statement.ensures.found
