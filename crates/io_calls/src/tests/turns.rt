@@ -1,6 +1,5 @@
 //! A counter that sessions share, each on a thread of its own.
-ghost use Rattle.std.specs.Prelude.{◌≡◌, ◌+◌, ◌<◌, ◌≤◌, ℕ, length, slice_index_or, vec_len, vec_capacity, IfOk};
-ghost use Rattle.io_calls.specs.declared.tests.turns.TheConstants.{SESSIONS};
+ghost use Rattle.std.specs.Prelude.{◌≡◌, ◌<◌, ℕ, length, slice_index_or};
 
 use super::counter::{Call, Counter};
 use catalog_lock::{Pass, Shared};
