@@ -1,5 +1,4 @@
 mod counter;
 mod index;
 mod lines;
-mod sessions;
 mod turns;

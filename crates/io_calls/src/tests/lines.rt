@@ -11,10 +11,10 @@ use svc_io::{
 };
 
 fn source_of(alloc: Global, texts: &[&str], failing: &[u64]) -> Result<MemSource, AllocError> {
-    let mut pieces = Vec::new(alloc);
-    for text in texts {
-        pieces.push(text.as_bytes().to_vec(alloc)?)?;
-    }
+    let pieces = texts
+        .iter()
+        .map(|text| text.as_bytes().to_vec(alloc))
+        .try_collect(alloc)?;
     Ok(MemSource::new(pieces, failing.to_vec(alloc)?))
 }
 
@@ -74,7 +74,12 @@ fn put<K: Sink>(alloc: Global, sink: &mut K, pieces: &[&str]) -> Result<String, 
 
 /// Whether all bytes of each piece go out.
 fn go_out<K: Sink>(sink: &mut K, pieces: [&str; 3]) -> [bool; 3] {
-    pieces.map(|piece| put_all(sink, piece.as_bytes()).is_ok())
+    let [first, second, third] = pieces;
+    [
+        put_all(sink, first.as_bytes()).is_ok(),
+        put_all(sink, second.as_bytes()).is_ok(),
+        put_all(sink, third.as_bytes()).is_ok(),
+    ]
 }
 
 /// A writer that takes nothing.
