@@ -1,4 +1,3 @@
-pub mod EmptyLemmas
 pub mod FirstLemmas
 pub mod ForeignLemmas
 pub mod KeyLists
