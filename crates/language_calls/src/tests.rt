@@ -159,12 +159,12 @@ fn told_statement(alloc: Global, text: &[u8]) -> Result<Text, Fail> {
     }
 }
 
-fn told_part(alloc: Global, parts: [&[u8]; 3]) -> Result<Text, Fail> {
-    let mut text = Text::new(alloc);
-    for part in parts {
-        text.push_all(part)?;
-    }
-    told_statement(alloc, text.bytes())
+fn told_part(alloc: Global, front: &str, text: &[u8], back: &str) -> Result<Text, Fail> {
+    let mut whole = Text::new(alloc);
+    whole.push_all(front.as_bytes())?;
+    whole.push_all(text)?;
+    whole.push_all(back.as_bytes())?;
+    told_statement(alloc, whole.bytes())
 }
 
 fn told(alloc: Global, kind: Kind, text: &[u8]) -> Result<Text, Fail> {
@@ -172,7 +172,7 @@ fn told(alloc: Global, kind: Kind, text: &[u8]) -> Result<Text, Fail> {
         Kind::Words => told_words(alloc, text),
         Kind::Stream => told_stream(alloc, text),
         Kind::Name => told_name(alloc, text),
-        Kind::Part(front, back) => told_part(alloc, [front.as_bytes(), text, back.as_bytes()]),
+        Kind::Part(front, back) => told_part(alloc, front, text, back),
     }
 }
 
