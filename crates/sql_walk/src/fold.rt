@@ -37,7 +37,7 @@ use std::alloc::AllocError;
 ///         around.checked_add(1).ok_or(AllocError)
 ///     }
 ///
-///     // what has a list repeats its clause in the words of the definition
+///     // what takes a list or an Option repeats its clause in the words of the definition
 ///     fn expr(&self, around: &usize, any: Items<usize>) -> Result<usize, AllocError>
 ///         ensures { IfOk result (λ out. out ≡ deepest around.now any) }
 ///     {
