@@ -28,5 +28,5 @@ taking_settled c P a b p q =
 pub taking_is : (c : List Item) (P : Item → Type 0) (edit : Edit) → IsTaking c P edit → edit ≡ record { target = edit.target; changed = []; added = [] }
 taking_is c P edit is = λ i. record { target = edit.target; changed = is.changed i; added = is.added i }
 
-chosen_within : (c : List Item) (P : Item → Type 0) (target : List Item) → AreChosen c P target → IsWithin target c
+pub chosen_within : (c : List Item) (P : Item → Type 0) (target : List Item) → AreChosen c P target → IsWithin target c
 chosen_within c P target chosen x h = ((chosen.members x).0 h).0
