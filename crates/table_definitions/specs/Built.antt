@@ -24,13 +24,13 @@ abbrev pub IsBuiltOption : ColumnOption → Type 0
 IsBuiltOption (options.Constraint name constraint) = IsBuiltConstraint constraint
 IsBuiltOption option = Unit {0}
 
-abbrev pub IsBuiltConstraint : TableConstraintKind → Type 0
-IsBuiltConstraint (kinds.Check condition) = ⊥
-IsBuiltConstraint kind = Unit {0}
+abbrev pub IsBuiltConstraintKind : TableConstraintKind → Type 0
+IsBuiltConstraintKind (kinds.Check condition) = ⊥
+IsBuiltConstraintKind kind = Unit {0}
 
 abbrev pub IsBuiltElement : TableElement → Type 0
 IsBuiltElement (elements.Column d) = IsDataType d.sort × ((option : ColumnOption) → Contains d.options option → IsBuiltOption option)
-IsBuiltElement (elements.Constraint k) = IsBuiltConstraint k.kind
+IsBuiltElement (elements.Constraint k) = IsBuiltConstraintKind k.kind
 
 abbrev pub IsBuiltTable : List TableElement → Type 0
 IsBuiltTable all = (element : TableElement) → Contains all element → IsBuiltElement element

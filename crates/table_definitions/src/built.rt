@@ -45,7 +45,7 @@ fn are_built_options(options: &Items<ColumnOption>) -> bool
 
 /// Whether a constraint of a table is built.
 fn is_built_kind(kind: &TableConstraintKind) -> bool
-    ensures { IsTrue result ↔ spec.IsBuiltConstraint kind.now }
+    ensures { IsTrue result ↔ spec.IsBuiltConstraintKind kind.now }
 {
     match kind {
         TableConstraintKind::Check(_) => false,
