@@ -1,6 +1,6 @@
 //! What the system grants to the owner of a schema.
 
-ghost use Rattle.std.specs.Prelude.{◌≡◌, ◌↔◌, length, IsTrue, None, slice_get};
+ghost use Rattle.std.specs.Prelude.{◌≡◌, ◌↔◌, IsTrue, None, slice_get};
 ghost use Rattle.std.specs.Option.{option_copied};
 ghost use Rattle.sql_names.specs.declared.object.Object.{Object};
 ghost use Rattle.cat_items.specs.declared.need.Auth.TheVariants.{Named};
@@ -8,13 +8,10 @@ ghost use Rattle.cat_items.specs.Keys.{object_of};
 ghost use Rattle.cat_items.specs.Reach.{Has};
 ghost use Rattle.cat_items.specs.Rights.{path_of};
 ghost use Rattle.cat_items.specs.SystemRights.{IsRoutineRow, IsSystemRow, IsTableRow, IsUpdatable, IsViewRow, MetOnBase, MetOnBaseColumn, SystemGrants, security_of};
-ghost use Rattle.role_graph.specs.Marked.{AreMarksOf, counted};
-ghost use Rattle.role_graph.specs.Roles.{IsRoomFor};
+ghost use Rattle.role_graph.specs.Judges.{counting};
 
-use cat_items::{
-    Auth, Catalogue, Item, Marks, Need, NeedKey, ObjectKey, Part, PathKey, Right, Routine, View,
-};
-use role_graph::{Actor, Condition, Walk, any_met, met_by, met_with_option, object_at};
+use cat_items::{Auth, Item, Need, NeedKey, ObjectKey, Part, PathKey, Right, Routine, View};
+use role_graph::{Actor, Condition, Judge, object_at};
 use sql_tree::{Action, Body, Name, Object, Security};
 
 /// With whose rights a routine runs.
@@ -40,18 +37,14 @@ fn is_table_row(action: Action, column: Option<&Name>) -> bool
 
 /// Whether an action on the base of a plain view is met.
 fn met_on_base(
-    c: &Catalogue,
-    marks: Option<&Marks>,
-    walk: &mut Walk,
+    judge: &mut Judge<'_>,
     owner: &Name,
     action: Action,
     base: &Option<Object>,
     grantable: bool,
 ) -> bool
-    requires room { IsRoomFor walk.old c.now.items }
-    requires marks { AreMarksOf (length c.now.items) (option_copied marks) }
-    ensures answer { IsTrue result ↔ MetOnBase grantable (counted c.now.items (option_copied marks.entry)) (Named owner.now) action base.now }
-    ensures room { walk.new ≡ walk.old }
+    ensures answer { IsTrue result ↔ MetOnBase grantable (counting judge.old) (Named owner.now) action base.now }
+    ensures same { judge.new ≡ judge.old }
 {
     match base {
         None => false,
@@ -61,26 +54,22 @@ fn met_on_base(
                 on: PathKey::Object(base.into()),
                 column: None,
             };
-            met_by(c, marks, walk, Actor::Named(owner), need, grantable)
+            judge.met_by(Actor::Named(owner), need, grantable)
         }
     }
 }
 
 /// Whether an action on a column of the base of a plain view is met.
 fn met_on_base_column(
-    c: &Catalogue,
-    marks: Option<&Marks>,
-    walk: &mut Walk,
+    judge: &mut Judge<'_>,
     owner: &Name,
     action: Action,
     base: &Option<Object>,
     column: Option<&Name>,
     grantable: bool,
 ) -> bool
-    requires room { IsRoomFor walk.old c.now.items }
-    requires marks { AreMarksOf (length c.now.items) (option_copied marks) }
-    ensures answer { IsTrue result ↔ MetOnBaseColumn grantable (counted c.now.items (option_copied marks.entry)) (Named owner.now) action base.now (option_copied column.entry) }
-    ensures room { walk.new ≡ walk.old }
+    ensures answer { IsTrue result ↔ MetOnBaseColumn grantable (counting judge.old) (Named owner.now) action base.now (option_copied column.entry) }
+    ensures same { judge.new ≡ judge.old }
 {
     match (base, column) {
         (Some(base), Some(_)) => {
@@ -89,7 +78,7 @@ fn met_on_base_column(
                 on: PathKey::Object(base.into()),
                 column,
             };
-            met_by(c, marks, walk, Actor::Named(owner), need, grantable)
+            judge.met_by(Actor::Named(owner), need, grantable)
         }
         _ => false,
     }
@@ -111,7 +100,7 @@ impl<'a> Condition for Updatable<'a> {
 
     ghost holds = { λ t s x. IsUpdatable t.grantable s (Named t.owner.now) t.view.now t.action t.name.now x };
 
-    fn is_met(&self, c: &Catalogue, marks: Option<&Marks>, walk: &mut Walk, x: &Item) -> bool {
+    fn is_met(&self, judge: &mut Judge<'_>, x: &Item) -> bool {
         match x {
             Item::Column(column) => {
                 let column = column.get();
@@ -119,9 +108,7 @@ impl<'a> Condition for Updatable<'a> {
                 column.table.same(&self.view.view)
                     && column.name.same(self.name)
                     && met_on_base_column(
-                        c,
-                        marks,
-                        walk,
+                        judge,
                         self.owner,
                         self.action,
                         &self.view.base,
@@ -136,19 +123,15 @@ impl<'a> Condition for Updatable<'a> {
 
 /// Whether a column of a view of this name can be changed by an action on its base.
 fn is_updatable(
-    c: &Catalogue,
-    marks: Option<&Marks>,
-    walk: &mut Walk,
+    judge: &mut Judge<'_>,
     owner: &Name,
     view: &View,
     action: Action,
     name: &Name,
     grantable: bool,
 ) -> bool
-    requires room { IsRoomFor walk.old c.now.items }
-    requires marks { AreMarksOf (length c.now.items) (option_copied marks) }
-    ensures answer { IsTrue result ↔ Has (counted c.now.items (option_copied marks.entry)) (IsUpdatable grantable (counted c.now.items (option_copied marks.entry)) (Named owner.now) view.now action name.now) }
-    ensures room { walk.new ≡ walk.old }
+    ensures answer { IsTrue result ↔ Has (counting judge.old) (IsUpdatable grantable (counting judge.old) (Named owner.now) view.now action name.now) }
+    ensures same { judge.new ≡ judge.old }
 {
     let test = Updatable {
         owner,
@@ -158,53 +141,40 @@ fn is_updatable(
         grantable,
     };
     let part = Part::Columns((&view.view).into());
-    any_met(c, marks, marks, walk, part, &test)
+    judge.any_met(part, &test)
 }
 
 /// Whether the system grants such an action on a view, or on a column of it.
 fn is_view_row(
-    c: &Catalogue,
-    marks: Option<&Marks>,
-    walk: &mut Walk,
+    judge: &mut Judge<'_>,
     owner: &Name,
     view: &View,
     action: Action,
     column: Option<&Name>,
     grantable: bool,
 ) -> bool
-    requires room { IsRoomFor walk.old c.now.items }
-    requires marks { AreMarksOf (length c.now.items) (option_copied marks) }
-    ensures answer { IsTrue result ↔ IsViewRow grantable (counted c.now.items (option_copied marks.entry)) (Named owner.now) view.now action (option_copied column.entry) }
-    ensures room { walk.new ≡ walk.old }
+    ensures answer { IsTrue result ↔ IsViewRow grantable (counting judge.old) (Named owner.now) view.now action (option_copied column.entry) }
+    ensures same { judge.new ≡ judge.old }
 {
     match (action, column) {
-        (Action::Select, _) => met_with_option(c, marks, walk, owner, &view.needs, grantable),
+        (Action::Select, _) => judge.met_with_option(owner, &view.needs, grantable),
         (Action::Insert | Action::Update | Action::Delete, None) => {
-            met_on_base(c, marks, walk, owner, action, &view.base, grantable)
+            met_on_base(judge, owner, action, &view.base, grantable)
         }
         (Action::Insert | Action::Update, Some(name)) => {
-            is_updatable(c, marks, walk, owner, view, action, name, grantable)
+            is_updatable(judge, owner, view, action, name, grantable)
         }
         _ => false,
     }
 }
 
 /// Whether the system grants EXECUTE on a routine: what an invoker's routine needs is its caller's affair.
-fn is_routine_row(
-    c: &Catalogue,
-    marks: Option<&Marks>,
-    walk: &mut Walk,
-    owner: &Name,
-    routine: &Routine,
-    grantable: bool,
-) -> bool
-    requires room { IsRoomFor walk.old c.now.items }
-    requires marks { AreMarksOf (length c.now.items) (option_copied marks) }
-    ensures answer { IsTrue result ↔ IsRoutineRow grantable (counted c.now.items (option_copied marks.entry)) (Named owner.now) routine.now (security_of routine.now.body) }
-    ensures room { walk.new ≡ walk.old }
+fn is_routine_row(judge: &mut Judge<'_>, owner: &Name, routine: &Routine, grantable: bool) -> bool
+    ensures answer { IsTrue result ↔ IsRoutineRow grantable (counting judge.old) (Named owner.now) routine.now (security_of routine.now.body) }
+    ensures same { judge.new ≡ judge.old }
 {
     match security(&routine.body) {
-        Security::Definer => met_with_option(c, marks, walk, owner, &routine.needs, grantable),
+        Security::Definer => judge.met_with_option(owner, &routine.needs, grantable),
         Security::Invoker => true,
     }
 }
@@ -247,7 +217,7 @@ impl<'a> Condition for SystemRow<'a> {
 
     ghost holds = { λ t s x. IsSystemRow t.grantable s t.schema.now (Named t.owner.now) t.need.now x };
 
-    fn is_met(&self, c: &Catalogue, marks: Option<&Marks>, walk: &mut Walk, x: &Item) -> bool {
+    fn is_met(&self, judge: &mut Judge<'_>, x: &Item) -> bool {
         let action = self.need.action;
         let column = self.need.column.as_ref();
         match x {
@@ -255,16 +225,7 @@ impl<'a> Condition for SystemRow<'a> {
             Item::View(view) => {
                 let view = view.get();
                 self.is_on(&view.view)
-                    && is_view_row(
-                        c,
-                        marks,
-                        walk,
-                        self.owner,
-                        view,
-                        action,
-                        column,
-                        self.grantable,
-                    )
+                    && is_view_row(judge, self.owner, view, action, column, self.grantable)
             }
             Item::Domain(domain) => {
                 self.is_on(&domain.get().domain) && is_whole(self.need, Action::Usage)
@@ -273,7 +234,7 @@ impl<'a> Condition for SystemRow<'a> {
                 let routine = routine.get();
                 self.is_on(&routine.routine)
                     && is_whole(self.need, Action::Execute)
-                    && is_routine_row(c, marks, walk, self.owner, routine, self.grantable)
+                    && is_routine_row(judge, self.owner, routine, self.grantable)
             }
             _ => false,
         }
@@ -281,35 +242,25 @@ impl<'a> Condition for SystemRow<'a> {
 }
 
 /// Whether an object of this name, of one of the kinds, is one on which the system grants this to the owner.
-fn any_row(
-    c: &Catalogue,
-    marks: Option<&Marks>,
-    walk: &mut Walk,
-    key: ObjectKey<'_>,
-    row: &SystemRow<'_>,
-) -> bool
-    requires room { IsRoomFor walk.old c.now.items }
-    requires marks { AreMarksOf (length c.now.items) (option_copied marks) }
+fn any_row(judge: &mut Judge<'_>, key: ObjectKey<'_>, row: &SystemRow<'_>) -> bool
     requires on { row.now.need.now.on ≡ path_of (object_of key) }
-    ensures answer { IsTrue result ↔ Has (counted c.now.items (option_copied marks.entry)) (IsSystemRow row.now.grantable (counted c.now.items (option_copied marks.entry)) row.now.schema.now (Named row.now.owner.now) row.now.need.now) }
-    ensures room { walk.new ≡ walk.old }
+    ensures answer { IsTrue result ↔ Has (counting judge.old) (IsSystemRow row.now.grantable (counting judge.old) row.now.schema.now (Named row.now.owner.now) row.now.need.now) }
+    ensures same { judge.new ≡ judge.old }
 {
-    any_met(c, marks, marks, walk, Part::Table(key), row)
-        || any_met(c, marks, marks, walk, Part::View(key), row)
-        || any_met(c, marks, marks, walk, Part::Domain(key), row)
-        || any_met(c, marks, marks, walk, Part::Routine(key), row)
+    judge.any_met(Part::Table(key), row)
+        || judge.any_met(Part::View(key), row)
+        || judge.any_met(Part::Domain(key), row)
+        || judge.any_met(Part::Routine(key), row)
 }
 
 /// Whether an object is one on which the system grants this to the owner.
-fn is_system_row(c: &Catalogue, marks: Option<&Marks>, walk: &mut Walk, row: &SystemRow<'_>) -> bool
-    requires room { IsRoomFor walk.old c.now.items }
-    requires marks { AreMarksOf (length c.now.items) (option_copied marks) }
-    ensures answer { IsTrue result ↔ Has (counted c.now.items (option_copied marks.entry)) (IsSystemRow row.now.grantable (counted c.now.items (option_copied marks.entry)) row.now.schema.now (Named row.now.owner.now) row.now.need.now) }
-    ensures room { walk.new ≡ walk.old }
+fn is_system_row(judge: &mut Judge<'_>, row: &SystemRow<'_>) -> bool
+    ensures answer { IsTrue result ↔ Has (counting judge.old) (IsSystemRow row.now.grantable (counting judge.old) row.now.schema.now (Named row.now.owner.now) row.now.need.now) }
+    ensures same { judge.new ≡ judge.old }
 {
     match object_at(PathKey::Path(&row.need.on)) {
         None => false,
-        Some(key) => any_row(c, marks, walk, key, row),
+        Some(key) => any_row(judge, key, row),
     }
 }
 
@@ -335,7 +286,7 @@ impl<'a> Condition for SystemSchema<'a> {
 
     ghost holds = { λ t s x. IsSystemSchema t.grantable s t.right.now x };
 
-    fn is_met(&self, c: &Catalogue, marks: Option<&Marks>, walk: &mut Walk, x: &Item) -> bool {
+    fn is_met(&self, judge: &mut Judge<'_>, x: &Item) -> bool {
         match x {
             Item::Schema(schema) => {
                 let schema = schema.get();
@@ -345,7 +296,7 @@ impl<'a> Condition for SystemSchema<'a> {
                     need: &self.right.need,
                     grantable: self.grantable,
                 };
-                is_named(&self.right.grantee, &schema.owner) && is_system_row(c, marks, walk, &row)
+                is_named(&self.right.grantee, &schema.owner) && is_system_row(judge, &row)
             }
             _ => false,
         }
@@ -353,23 +304,15 @@ impl<'a> Condition for SystemSchema<'a> {
 }
 
 /// Whether the system grants a right, held or with grant option.
-pub fn system_grants(
-    c: &Catalogue,
-    marks: Option<&Marks>,
-    walk: &mut Walk,
-    right: &Right,
-    grantable: bool,
-) -> bool
-    requires room { IsRoomFor walk.old c.now.items }
-    requires marks { AreMarksOf (length c.now.items) (option_copied marks) }
-    ensures answer { IsTrue result ↔ SystemGrants grantable (counted c.now.items (option_copied marks.entry)) right.now }
-    ensures room { walk.new ≡ walk.old }
+pub fn system_grants(judge: &mut Judge<'_>, right: &Right, grantable: bool) -> bool
+    ensures answer { IsTrue result ↔ SystemGrants grantable (counting judge.old) right.now }
+    ensures same { judge.new ≡ judge.old }
 {
     match object_at(PathKey::Path(&right.need.on)) {
         None => false,
         Some(key) => {
             let test = SystemSchema { right, grantable };
-            any_met(c, marks, marks, walk, Part::Schema(key.schema), &test)
+            judge.any_met(Part::Schema(key.schema), &test)
         }
     }
 }

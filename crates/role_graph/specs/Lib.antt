@@ -1,5 +1,6 @@
 pub mod Actors
 pub mod Cycles
+pub mod Judges
 pub mod Loops
 pub mod Marked
 pub mod Needs

@@ -5,7 +5,7 @@
 mod actor;
 mod cycle;
 mod grants;
-mod loops;
+mod judge;
 mod meeting;
 mod roles;
 mod standing;
@@ -14,11 +14,8 @@ mod walk;
 
 pub use actor::Actor;
 pub use cycle::makes_cycle;
-pub use grants::is_counted;
-pub use loops::{Condition, Matches, any_in, any_match, any_met};
-pub use meeting::{Needs, has_admin, met, met_by, met_with_option, owner_meets};
+pub use judge::{Condition, Judge, Matches};
+pub use meeting::{Needs, met, met_by};
 pub use roles::{applicable, enabled};
-pub use standing::{
-    all_stand, authorization_stands, domain_stands, has_columns, object_at, stands, table_stands,
-};
+pub use standing::object_at;
 pub use walk::{Walk, reaches};

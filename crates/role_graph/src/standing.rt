@@ -7,11 +7,10 @@ ghost use Rattle.cat_items.specs.Keys.{object_of, path_in, need_of};
 ghost use Rattle.cat_items.specs.Reach.{Has};
 ghost use Rattle.cat_items.specs.Rights.{path_of, IsAuthorization, IsTable, IsDomain, IsRoutine, IsColumn, IsObject, HasColumn, Stands};
 ghost use Rattle.cat_items.specs.Supported.{HasColumns};
-ghost use Rattle.role_graph.specs.Marked.{AreMarksOf, counted};
-ghost use Rattle.role_graph.specs.Loops.{IsColumnNamed};
+ghost use Rattle.role_graph.specs.Judges.{counting};
 
-use crate::loops::{Matches, any_in, any_match};
-use cat_items::{Catalogue, Item, Marks, Need, NeedKey, ObjectKey, Part, PathKey};
+use crate::judge::{Judge, Matches};
+use cat_items::{Item, Need, NeedKey, ObjectKey, Part, PathKey};
 use sql_tree::{Action, Items, Name, Object};
 
 /// The object of a path: an object's path has two names.
@@ -42,56 +41,6 @@ pub fn role_at(on: PathKey<'_>) -> Option<&Name>
     }
 }
 
-/// Whether a user or a role of this name counts.
-pub fn authorization_stands(c: &Catalogue, marks: Option<&Marks>, name: &Name) -> bool
-    requires { AreMarksOf (length c.now.items) (option_copied marks) }
-    ensures { IsTrue result ↔ Has (counted c.now.items (option_copied marks.entry)) (IsAuthorization name.now) }
-{
-    any_in(c, marks, Part::User(name)) || any_in(c, marks, Part::Role(name))
-}
-
-/// Whether a base table or a view of this name counts.
-pub fn table_stands(c: &Catalogue, marks: Option<&Marks>, object: ObjectKey<'_>) -> bool
-    requires { AreMarksOf (length c.now.items) (option_copied marks) }
-    ensures { IsTrue result ↔ Has (counted c.now.items (option_copied marks.entry)) (IsTable (path_of (object_of object.entry))) }
-{
-    any_in(c, marks, Part::Table(object)) || any_in(c, marks, Part::View(object))
-}
-
-/// Whether a domain of this name counts.
-pub fn domain_stands(c: &Catalogue, marks: Option<&Marks>, object: ObjectKey<'_>) -> bool
-    requires { AreMarksOf (length c.now.items) (option_copied marks) }
-    ensures { IsTrue result ↔ Has (counted c.now.items (option_copied marks.entry)) (IsDomain (path_of (object_of object.entry))) }
-{
-    any_in(c, marks, Part::Domain(object))
-}
-
-/// Whether a routine of this name counts.
-fn routine_stands(c: &Catalogue, marks: Option<&Marks>, object: ObjectKey<'_>) -> bool
-    requires { AreMarksOf (length c.now.items) (option_copied marks) }
-    ensures { IsTrue result ↔ Has (counted c.now.items (option_copied marks.entry)) (IsRoutine (path_of (object_of object.entry))) }
-{
-    any_in(c, marks, Part::Routine(object))
-}
-
-/// Whether the object of such an action counts.
-fn object_stands(
-    c: &Catalogue,
-    marks: Option<&Marks>,
-    action: Action,
-    object: ObjectKey<'_>,
-) -> bool
-    requires { AreMarksOf (length c.now.items) (option_copied marks) }
-    ensures { IsTrue result ↔ Has (counted c.now.items (option_copied marks.entry)) (IsObject action (path_of (object_of object.entry))) }
-{
-    match action {
-        Action::Usage => domain_stands(c, marks, object),
-        Action::Execute => routine_stands(c, marks, object),
-        Action::Admin => false,
-        _ => table_stands(c, marks, object),
-    }
-}
-
 /// A column of this name.
 #[derive(Drop)]
 struct ColumnNamed<'a> {
@@ -111,71 +60,97 @@ impl<'a> Matches for ColumnNamed<'a> {
     }
 }
 
-/// Whether a column of this name of the table or view counts.
-pub fn has_column(c: &Catalogue, marks: Option<&Marks>, object: ObjectKey<'_>, name: &Name) -> bool
-    requires { AreMarksOf (length c.now.items) (option_copied marks) }
-    ensures { IsTrue result ↔ Has (counted c.now.items (option_copied marks.entry)) (IsColumn (path_of (object_of object.entry)) name.now) }
-{
-    any_match(c, marks, Part::Columns(object), &ColumnNamed { name })
-}
-
-/// Whether the column counts, where there is one.
-fn column_stands(
-    c: &Catalogue,
-    marks: Option<&Marks>,
-    object: ObjectKey<'_>,
-    column: Option<&Name>,
-) -> bool
-    requires { AreMarksOf (length c.now.items) (option_copied marks) }
-    ensures { IsTrue result ↔ HasColumn (counted c.now.items (option_copied marks.entry)) (path_of (object_of object.entry)) (option_copied column.entry) }
-{
-    match column {
-        None => true,
-        Some(name) => has_column(c, marks, object, name),
+impl Judge<'_> {
+    /// Whether a user or a role of this name counts.
+    pub fn authorization_stands(&self, name: &Name) -> bool
+        ensures { IsTrue result ↔ Has (counting self.now) (IsAuthorization name.now) }
+    {
+        self.any_in(Part::User(name)) || self.any_in(Part::Role(name))
     }
-}
 
-/// Whether a need's object counts, and its column where it names one.
-pub fn stands(c: &Catalogue, marks: Option<&Marks>, need: NeedKey<'_>) -> bool
-    requires { AreMarksOf (length c.now.items) (option_copied marks) }
-    ensures { IsTrue result ↔ Stands (counted c.now.items (option_copied marks.entry)) (need_of need.entry) }
-{
-    match object_at(need.on) {
-        None => false,
-        Some(object) => {
-            object_stands(c, marks, need.action, object)
-                && column_stands(c, marks, object, need.column)
+    /// Whether a base table or a view of this name counts.
+    pub fn table_stands(&self, object: ObjectKey<'_>) -> bool
+        ensures { IsTrue result ↔ Has (counting self.now) (IsTable (path_of (object_of object.entry))) }
+    {
+        self.any_in(Part::Table(object)) || self.any_in(Part::View(object))
+    }
+
+    /// Whether a domain of this name counts.
+    pub fn domain_stands(&self, object: ObjectKey<'_>) -> bool
+        ensures { IsTrue result ↔ Has (counting self.now) (IsDomain (path_of (object_of object.entry))) }
+    {
+        self.any_in(Part::Domain(object))
+    }
+
+    /// Whether a routine of this name counts.
+    fn routine_stands(&self, object: ObjectKey<'_>) -> bool
+        ensures { IsTrue result ↔ Has (counting self.now) (IsRoutine (path_of (object_of object.entry))) }
+    {
+        self.any_in(Part::Routine(object))
+    }
+
+    /// Whether the object of such an action counts.
+    fn object_stands(&self, action: Action, object: ObjectKey<'_>) -> bool
+        ensures { IsTrue result ↔ Has (counting self.now) (IsObject action (path_of (object_of object.entry))) }
+    {
+        match action {
+            Action::Usage => self.domain_stands(object),
+            Action::Execute => self.routine_stands(object),
+            Action::Admin => false,
+            _ => self.table_stands(object),
         }
     }
-}
 
-/// Whether the objects of all these needs count.
-pub fn all_stand(c: &Catalogue, marks: Option<&Marks>, needs: &Items<Need>) -> bool
-    requires { AreMarksOf (length c.now.items) (option_copied marks) }
-    ensures { IsTrue result ↔ All (Stands (counted c.now.items (option_copied marks.entry))) needs.now }
-{
-    for need in needs.as_slice() {
-        if !stands(c, marks, need.into()) {
-            return false;
+    /// Whether a column of this name of the table or view counts.
+    pub fn has_column(&self, object: ObjectKey<'_>, name: &Name) -> bool
+        ensures { IsTrue result ↔ Has (counting self.now) (IsColumn (path_of (object_of object.entry)) name.now) }
+    {
+        self.any_match(Part::Columns(object), &ColumnNamed { name })
+    }
+
+    /// Whether the column counts, where there is one.
+    fn column_stands(&self, object: ObjectKey<'_>, column: Option<&Name>) -> bool
+        ensures { IsTrue result ↔ HasColumn (counting self.now) (path_of (object_of object.entry)) (option_copied column.entry) }
+    {
+        match column {
+            None => true,
+            Some(name) => self.has_column(object, name),
         }
     }
-    true
-}
 
-/// Whether each of these columns of a table counts.
-pub fn has_columns(
-    c: &Catalogue,
-    marks: Option<&Marks>,
-    table: &Object,
-    columns: &Items<Name>,
-) -> bool
-    requires { AreMarksOf (length c.now.items) (option_copied marks) }
-    ensures { IsTrue result ↔ HasColumns (counted c.now.items (option_copied marks.entry)) table.now columns.now }
-{
-    for name in columns.as_slice() {
-        if !has_column(c, marks, table.into(), name) {
-            return false;
+    /// Whether a need's object counts, and its column where it names one.
+    pub fn stands(&self, need: NeedKey<'_>) -> bool
+        ensures { IsTrue result ↔ Stands (counting self.now) (need_of need.entry) }
+    {
+        match object_at(need.on) {
+            None => false,
+            Some(object) => {
+                self.object_stands(need.action, object) && self.column_stands(object, need.column)
+            }
         }
     }
-    true
+
+    /// Whether the objects of all these needs count.
+    pub fn all_stand(&self, needs: &Items<Need>) -> bool
+        ensures { IsTrue result ↔ All (Stands (counting self.now)) needs.now }
+    {
+        for need in needs.as_slice() {
+            if !self.stands(need.into()) {
+                return false;
+            }
+        }
+        true
+    }
+
+    /// Whether each of these columns of a table counts.
+    pub fn has_columns(&self, table: &Object, columns: &Items<Name>) -> bool
+        ensures { IsTrue result ↔ HasColumns (counting self.now) table.now columns.now }
+    {
+        for name in columns.as_slice() {
+            if !self.has_column(table.into(), name) {
+                return false;
+            }
+        }
+        true
+    }
 }
