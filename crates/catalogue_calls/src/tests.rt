@@ -127,13 +127,9 @@ fn book_after<L: Ledger>(
     Ok(book)
 }
 
-fn book_of(rt: &impl Abort, alloc: Global, script: &str) -> Result<Book, Fail> {
-    book_after::<Brand>(rt, alloc, Blank::new(1), script)
-}
-
 #[test]
 fn edits_destroy_and_add_so_many_items(rt: HostRuntime) -> Result<(), Fail> {
-    book_of(&rt, rt.alloc(), EDITS)?;
+    book_after::<Brand>(&rt, rt.alloc(), Blank::new(1), EDITS)?;
     Ok(())
 }
 
@@ -174,7 +170,7 @@ fn utf8(text: &Text) -> &str {
 #[test]
 fn a_cycle_with_a_second_support_stays(rt: HostRuntime) -> Result<(), Fail> {
     let alloc = rt.alloc();
-    let book = book_of(&rt, alloc, CYCLE)?;
+    let book = book_after::<Brand>(&rt, alloc, Blank::new(1), CYCLE)?;
     let c = book.catalogue();
     assert_eq!(rt; utf8(&granted(alloc, c)?), GRANTED);
     assert_eq!(rt; utf8(&first_need(alloc, c)?), "SELECT ON TABLE ALICE.T");
@@ -211,7 +207,7 @@ fn fallen(alloc: Global, c: &Catalogue, front: &str) -> Result<String, Fail> {
 
 #[test]
 fn what_rests_on_an_item_falls_with_it(rt: HostRuntime) -> Result<(), Fail> {
-    let book = book_of(&rt, rt.alloc(), CYCLE)?;
+    let book = book_after::<Brand>(&rt, rt.alloc(), Blank::new(1), CYCLE)?;
     for row in RESTING.lines() {
         let (front, count) = row.split_once(" => ").ok_or("no count")?;
         assert_eq!(rt;
@@ -229,7 +225,7 @@ fn reach(alloc: Global, c: &Catalogue, from: &str, to: &str) -> Result<[bool; 2]
     let to = Auth::Named(name(alloc, to)?);
     let mut walk = Walk::new(alloc, c)?;
     let mut marks = Marks::new(alloc, c)?;
-    for at in 0..marks.len() {
+    for at in 0..c.items().len() {
         marks.mark(at);
     }
     Ok([
@@ -258,7 +254,7 @@ fn enabled_by(alloc: Global, c: &Catalogue, role: Option<Name>) -> Result<usize,
 #[test]
 fn roles_are_reached_one_from_another(rt: HostRuntime) -> Result<(), Fail> {
     let alloc = rt.alloc();
-    let book = book_of(&rt, alloc, ROLES)?;
+    let book = book_after::<Brand>(&rt, alloc, Blank::new(1), ROLES)?;
     let c = book.catalogue();
     let first = reach(alloc, c, "R1", "R2")?;
     let second = reach(alloc, c, "R2", "R1")?;

@@ -7,6 +7,7 @@ use item_index::Steps;
 use sql_tree::Name;
 use std::alloc::{AllocError, Global};
 use std::marker::Brand;
+use std::process::Abort;
 use std::sync::ledger::{Blank, Ledger};
 use std::test::Fail;
 use svc_io::{MemSink, MemSource};
@@ -21,20 +22,15 @@ fn book(alloc: Global, limits: Limits) -> Result<Book, Fail> {
 /// What a book of the user ALICE and these limits answers to session 7.
 fn replies_of<L: Ledger>(
     alloc: Global,
-    blank: Blank,
+    steps: &mut Steps<L>,
     limits: Limits,
     script: &str,
-) -> Result<MemSink, Fail>
-    requires name { blank.name ≡ L.name }
-    requires parts { blank.parts ≡ L.parts }
-    requires whole { blank.parts ≡ 1 }
-{
-    let mut steps: Steps<L> = Steps::new(blank);
+) -> Result<MemSink, Fail> {
     let mut book = book(alloc, limits)?;
     let mut sink = MemSink::new(alloc, 100, 1000, Vec::new(alloc))?;
     for text in script.lines() {
         if text.len() <= 65_535 {
-            let reply = book.apply(7, text.as_bytes(), &mut steps);
+            let reply = book.apply(7, text.as_bytes(), steps);
             write_reply(&mut sink, &reply).or(Err("no room"))?;
         }
     }
@@ -61,8 +57,12 @@ const FULL: [(u32, u32, u64, &str, &str); 6] = [
     (99, 2, 999, TABLES, "OK\nOK\nOK\nOK\n"),
 ];
 
-#[test]
-fn books_are_full(rt: HostRuntime) -> Result<(), Fail> {
+fn each_is_full<L: Ledger>(rt: &impl Abort, alloc: Global, blank: Blank) -> Result<(), Fail>
+    requires name { blank.name ≡ L.name }
+    requires parts { blank.parts ≡ L.parts }
+    requires whole { blank.parts ≡ 1 }
+{
+    let mut steps: Steps<L> = Steps::new(blank);
     for (items, columns, journal, script, replies) in FULL {
         let limits = Limits {
             items,
@@ -70,7 +70,7 @@ fn books_are_full(rt: HostRuntime) -> Result<(), Fail> {
             journal,
             stream: 999,
         };
-        let sink = replies_of::<Brand>(rt.alloc(), Blank::new(1), limits, script)?;
+        let sink = replies_of(alloc, &mut steps, limits, script)?;
         assert_eq!(rt;
             sink.bytes(),
             replies.as_bytes(),
@@ -78,6 +78,11 @@ fn books_are_full(rt: HostRuntime) -> Result<(), Fail> {
         );
     }
     Ok(())
+}
+
+#[test]
+fn books_are_full(rt: HostRuntime) -> Result<(), Fail> {
+    each_is_full::<Brand>(&rt, rt.alloc(), Blank::new(1))
 }
 
 /// The words `script`, `--users` and a list.

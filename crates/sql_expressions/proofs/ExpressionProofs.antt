@@ -611,7 +611,7 @@ module _ (whole : Parser Expr) (Whole : Spelled Expr) (w : Parses binds whole Wh
     compare_at (greater_or_equal t) is s = rw (peek_at t, next_at t, last_sum_at is s)
 
     tail_at : {x : Tail} {ws rest : List Word} → SpellsTail value Whole n x ws rest → Below binds 9 rest → parse.tail value whole n ws ≡ Some (Some x, rest)
-    unfolding parse.tail parse.test parse.between parse.is_null parse.members
+    unfolding parse.tail parse.testing parse.between parse.is_null parse.members
     tail_at (compare t is) s = compare_at t is s
     tail_at (is_null {b = b} t m u) s = let e = marked_at m (sees_other k.Not k.Null b (peek_at u) refl) in rw (peek_at t, next_at t, e.0, e.1, expect_at u)
     tail_at (between {low = low} {b = b} {c = c} absent t is a is') s = rw (peek_at t, peek_at t, next_at t, sum_at low b c is (below_token binds 10 a (lit< tt)), expect_at a, last_sum_at is' s)
@@ -635,8 +635,8 @@ module _ (whole : Parser Expr) (Whole : Spelled Expr) (w : Parses binds whole Wh
     test_sound_by {a = a} m k.Like e = gives_then (sum_sound (next a)) (λ x rest is. gives_some (like m (token_next k.Like tt e) is))
     test_sound_by m _ e = gives_none
 
-    gives_test : {negated : Bool} {ws a : List Word} → Marked k.Not negated ws a → Gives (parse.test value whole n negated a) (λ x rest. SpellsTail value Whole n x ws rest)
-    unfolding parse.test
+    gives_test : {negated : Bool} {ws a : List Word} → Marked k.Not negated ws a → Gives (parse.testing value whole n negated a) (λ x rest. SpellsTail value Whole n x ws rest)
+    unfolding parse.testing
     gives_test {a = a} m = test_sound_by m (peek a) refl
 
     -- the tail of a predicate, where there is one

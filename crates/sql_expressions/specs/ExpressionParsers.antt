@@ -239,8 +239,8 @@ module _ (value : Bool) (whole : Parser Expr) (n : ℕ) where
   test_by negated k.Like = skip >> tails.Like negated <$> sum
   test_by negated _ = refuse
 
-  unfoldable pub test : Bool → Parser Tail
-  test negated = λ ws. test_by negated (peek ws) ws
+  unfoldable pub testing : Bool → Parser Tail
+  testing negated = λ ws. test_by negated (peek ws) ws
 
   abbrev pub compared_by : Option Comparison → Parser (Option Tail)
   compared_by (Some c) = skip >> (λ s. Some (tails.Compare c s)) <$> sum
@@ -248,10 +248,10 @@ module _ (value : Bool) (whole : Parser Expr) (n : ℕ) where
 
   abbrev pub tail_by : Kind → Parser (Option Tail)
   tail_by k.Is = skip >> Some <$> is_null
-  tail_by k.Not = skip >> Some <$> test true
-  tail_by k.Between = Some <$> test false
-  tail_by k.In = Some <$> test false
-  tail_by k.Like = Some <$> test false
+  tail_by k.Not = skip >> Some <$> testing true
+  tail_by k.Between = Some <$> testing false
+  tail_by k.In = Some <$> testing false
+  tail_by k.Like = Some <$> testing false
   tail_by kind = compared_by (comparison_of kind)
 
   unfoldable pub tail : Parser (Option Tail)

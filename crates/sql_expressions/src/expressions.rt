@@ -163,10 +163,10 @@ impl<F: Fn(Global, &mut Reader<'_>, usize, bool) -> Result<Expr, GrammarError>> 
     }
 
     // A test that NOT may stand before.
-    #[tactic(auto, unfolding(crate::specs::ExpressionParsers::test))]
+    #[tactic(auto, unfolding(crate::specs::ExpressionParsers::testing))]
     fn test(&self, words: &mut Reader<'_>, negated: bool) -> Result<Tail, GrammarError>
         requires { Nests self.now.value self.now.depth (F.pre self.now.expr) (F.post self.now.expr) }
-        ensures { Reads (spec.test self.now.value (expr_within self.now.value self.now.depth) self.now.depth negated words.old) result words.new }
+        ensures { Reads (spec.testing self.now.value (expr_within self.now.value self.now.depth) self.now.depth negated words.old) result words.new }
     {
         match words.peek() {
             Kind::Between => {
