@@ -105,12 +105,15 @@ fn book_after<L: Ledger>(
     rt: &impl Abort,
     alloc: Global,
     blank: Blank,
-    script: &str,
+    script: &[u8],
 ) -> Result<Book, Fail>
     requires name { blank.name ≡ L.name }
     requires parts { blank.parts ≡ L.parts }
     requires whole { blank.parts ≡ 1 }
 {
+    let Ok(script) = str::from_utf8(script) else {
+        return Err("not UTF-8")?;
+    };
     let mut steps: Steps<L> = Steps::new(blank);
     let mut book = book(alloc)?;
     for row in script.lines() {
@@ -129,7 +132,7 @@ fn book_after<L: Ledger>(
 
 #[test]
 fn edits_destroy_and_add_so_many_items(rt: HostRuntime) -> Result<(), Fail> {
-    book_after::<Brand>(&rt, rt.alloc(), Blank::new(1), EDITS)?;
+    book_after::<Brand>(&rt, rt.alloc(), Blank::new(1), EDITS.as_bytes())?;
     Ok(())
 }
 
@@ -170,7 +173,7 @@ fn utf8(text: &Text) -> &str {
 #[test]
 fn a_cycle_with_a_second_support_stays(rt: HostRuntime) -> Result<(), Fail> {
     let alloc = rt.alloc();
-    let book = book_after::<Brand>(&rt, alloc, Blank::new(1), CYCLE)?;
+    let book = book_after::<Brand>(&rt, alloc, Blank::new(1), CYCLE.as_bytes())?;
     let c = book.catalogue();
     assert_eq!(rt; utf8(&granted(alloc, c)?), GRANTED);
     assert_eq!(rt; utf8(&first_need(alloc, c)?), "SELECT ON TABLE ALICE.T");
@@ -207,7 +210,7 @@ fn fallen(alloc: Global, c: &Catalogue, front: &str) -> Result<String, Fail> {
 
 #[test]
 fn what_rests_on_an_item_falls_with_it(rt: HostRuntime) -> Result<(), Fail> {
-    let book = book_after::<Brand>(&rt, rt.alloc(), Blank::new(1), CYCLE)?;
+    let book = book_after::<Brand>(&rt, rt.alloc(), Blank::new(1), CYCLE.as_bytes())?;
     for row in RESTING.lines() {
         let (front, count) = row.split_once(" => ").ok_or("no count")?;
         assert_eq!(rt;
@@ -254,7 +257,7 @@ fn enabled_by(alloc: Global, c: &Catalogue, role: Option<Name>) -> Result<usize,
 #[test]
 fn roles_are_reached_one_from_another(rt: HostRuntime) -> Result<(), Fail> {
     let alloc = rt.alloc();
-    let book = book_after::<Brand>(&rt, alloc, Blank::new(1), ROLES)?;
+    let book = book_after::<Brand>(&rt, alloc, Blank::new(1), ROLES.as_bytes())?;
     let c = book.catalogue();
     let first = reach(alloc, c, "R1", "R2")?;
     let second = reach(alloc, c, "R2", "R1")?;
