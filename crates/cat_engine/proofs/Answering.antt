@@ -1,13 +1,14 @@
 -- How a text is answered: which tests pass, and what is done then.
-use Rattle.std.proofs.Common.{◌≡◌, ◌↔◌, ℕ, Bool, false, IsTrue, List, [], ◌∷◌, Option, Some, None, Result, Ok, Err, ap, subst, sym, refl, inl, inr}
+use Rattle.std.proofs.Common.{◌≡◌, ◌∙◌, ◌↔◌, ℕ, Bool, false, IsTrue, List, [], ◌∷◌, Option, Some, None, Result, Ok, Err, ap, subst, sym, refl, inl, inr}
 use Rattle.std.specs.List.{Contains}
 use Rattle.std.specs.Result.{IfOk}
 use Rattle.sql_words.specs.Words.{words_of}
 use Rattle.sql_words.specs.declared.word.Word.{Word}
 use Rattle.sql_tree.specs.declared.statement.Connect.{Connect as ConnectParts}
+use Rattle.sql_tree.specs.declared.statement.InfoQuery.{InfoQuery}
 use Rattle.sql_tree.specs.declared.statement.RoleChoice.{RoleChoice}
 use Rattle.sql_tree.specs.declared.statement.Statement.{Statement}
-use Rattle.sql_tree.specs.declared.statement.Statement.TheVariants.{Connect, CreateTable, SetConnection, Disconnect, SetSchema, SetRole}
+use Rattle.sql_tree.specs.declared.statement.Statement.TheVariants.{Connect, SetConnection, Disconnect, Select, SetSchema, SetRole}
 use Rattle.sql_grammar.specs.Profile.{OutOfProfile}
 use Rattle.sql_grammar.specs.StatementRules.{Grammar}
 use Rattle.cat_items.specs.declared.edit.EditError.{EditError}
@@ -21,21 +22,27 @@ use Rattle.cat_items.specs.declared.limits.Limits.{Limits}
 use Rattle.cat_items.specs.declared.need.Auth.TheVariants.{Named}
 use Rattle.cat_items.specs.Reach.{Has, Reaches}
 use Rattle.cat_items.specs.Rights.{IsRole}
-use Rattle.statement_forms.proofs.Forms.{table_forms}
-use Rattle.define_edit.specs.Creations.{HasForms}
-use Rattle.edit_rules.specs.First.{First, Passes, Tested}
+use Rattle.sql_words.proofs.ReadWords.{texts-have-words}
+use Rattle.statement_forms.specs.Written.{IsWritten}
+use Rattle.edit_rules.specs.First.{First, IsTested, Passes, Tested}
 use Rattle.edit_rules.proofs.FirstLaws.{passes_none, passes_more, first_right, passes_both}
 use Rattle.catalogue_edits.specs.declared.warning.Warning.{Warning}
+use Rattle.catalogue_edits.specs.Kinds.{kind_of}
 use Rattle.catalogue_edits.specs.Revisions.{IsRevised, revision_refusals}
 use Rattle.catalogue_edits.specs.Statements.{IsBuiltEdit}
 use Rattle.cat_engine.specs.Built.{IsBuilt}
 use Rattle.cat_engine.specs.ConnectionRefusals.{not_connected, connection_in_use, unknown_user}
 use Rattle.cat_engine.specs.Contents.{Content}
-use Rattle.cat_engine.specs.Effects.{Changes, ChangesSession, Revises, connection_of, success}
-use Rattle.cat_engine.specs.Refusals.{connection_name, for_current, for_statement, session_edit_refusals, invalid_role, MayBeRole, role_chosen, set_role_refusals, statement_refusals}
+use Rattle.cat_engine.specs.Effects.{Changes, ChangesSession, Edits, IsAnswered, Revises, connection_of, outcome_of, reply_of}
+use Rattle.cat_engine.specs.Refusals.{MayBeRole, connection_name, for_current, for_statement, invalid_role, role_chosen, select_refusals, session_edit_refusals, set_role_refusals, statement_refusals, unanswered}
 use Rattle.cat_engine.specs.Sessions.{has_connection, session_of, who_of, with_session, connected, set_for}
 use Rattle.cat_engine.specs.Steps.{Answers}
 use Rattle.cat_engine.specs.WordRefusals.{Reads, bad_token, not_in_profile, syntax_error}
+use Rattle.information_schema.specs.Answers.{IsAnswerFor}
+use Rattle.information_schema.specs.Queries.{refusal as refusal_of_query}
+use Rattle.information_schema.specs.declared.answers.Rows.{Rows}
+use Rattle.cat_engine.specs.declared.outcome.Outcome.{Outcome}
+use Rattle.cat_engine.specs.declared.outcome.Outcome.TheVariants.{Answered}
 use Rattle.cat_engine.specs.declared.reply.Reply.TheVariants as reply
 use Rattle.cat_engine.specs.declared.session.Session.{Session}
 use Rattle.cat_engine.specs.declared.session.Setting.TheVariants.{Role}
@@ -111,24 +118,42 @@ reach_decides c who role name user copy (Ok a) is same copied stands h =
 -- ---- statements that edit the catalogue
 
 -- a statement of another kind than those of connections and schemas of sessions
-pub built_edit : (s : Statement) → ((c : ConnectParts) → s ≡ Connect c → ⊥) → ((n : List ℕ) → s ≡ SetConnection n → ⊥) → ((n : List ℕ) → s ≡ Disconnect n → ⊥) → ((n : List ℕ) → s ≡ SetSchema n → ⊥) → ((r : RoleChoice) → s ≡ SetRole r → ⊥) → IsBuilt s ↔ IsBuiltEdit s
-built_edit (Connect c) connect switch leave schema role = absurd (connect c refl)
-built_edit (SetConnection n) connect switch leave schema role = absurd (switch n refl)
-built_edit (Disconnect n) connect switch leave schema role = absurd (leave n refl)
-built_edit (SetSchema n) connect switch leave schema role = absurd (schema n refl)
-built_edit (SetRole r) connect switch leave schema role = absurd (role r refl)
-built_edit s connect switch leave schema role = (λ h. h, λ h. h)
+pub built_edit : (s : Statement) → ((c : ConnectParts) → s ≡ Connect c → ⊥) → ((n : List ℕ) → s ≡ SetConnection n → ⊥) → ((n : List ℕ) → s ≡ Disconnect n → ⊥) → ((n : List ℕ) → s ≡ SetSchema n → ⊥) → ((r : RoleChoice) → s ≡ SetRole r → ⊥) → ((q : InfoQuery) → s ≡ Select q → ⊥) → IsBuilt s ↔ IsBuiltEdit s
+built_edit (Connect c) connect switch leave schema role ask = absurd (connect c refl)
+built_edit (SetConnection n) connect switch leave schema role ask = absurd (switch n refl)
+built_edit (Disconnect n) connect switch leave schema role ask = absurd (leave n refl)
+built_edit (SetSchema n) connect switch leave schema role ask = absurd (schema n refl)
+built_edit (SetRole r) connect switch leave schema role ask = absurd (role r refl)
+built_edit (Select q) connect switch leave schema role ask = absurd (ask q refl)
+built_edit s connect switch leave schema role ask = (λ h. h, λ h. h)
 
--- its tests and what it does
-pub edit_tested : (limits : Limits) (number : ℕ) (old new : Content) (s : Statement) (result : Result (Option Warning) EditError) → IsBuiltEdit s
-    → Tested (session_edit_refusals limits number old s) (λ warning. Revises s number old warning new) (new ≡ old) result
-    → Tested (statement_refusals limits number old s) (λ warning. Changes s number old warning new) (new ≡ old) result
+-- its tests, and what it does
+pub edit_tested : (limits : Limits) (number : ℕ) (old new : Content) (s : Statement) (result : Result Outcome EditError) → IsBuiltEdit s
+    → Tested (session_edit_refusals limits number old s) (λ outcome. Edits s number old outcome new) (new ≡ old) result
+    → Tested (statement_refusals limits number old s) (λ outcome. Changes s number old outcome new) (new ≡ old) result
+unfolding kind_of
 edit_tested limits number old new (Connect c) result is h = absurd is
 edit_tested limits number old new (SetConnection n) result is h = absurd is
 edit_tested limits number old new (Disconnect n) result is h = absurd is
 edit_tested limits number old new (SetSchema n) result is h = absurd is
 edit_tested limits number old new (SetRole r) result is h = absurd is
+edit_tested limits number old new (Select q) result is h = absurd is
 edit_tested limits number old new s result is h = h
+
+-- what a part of it did, and its error, are those of the whole
+pub edit_told : (tests : List (Refusal → Type 0)) (number : ℕ) (old new : Content) (s : Statement) (warning : Option Warning) (outcome : Outcome) → outcome ≡ outcome_of warning
+    → Passes (First tests) × Revises s number old warning new → Passes (First tests) × Edits s number old outcome new
+edit_told tests number old new s warning outcome told h = (h.0, (warning, told, h.1))
+
+pub same_exit : {T U : Type 0} (tests : List (Refusal → Type 0)) (P : T → Type 0) (Q : U → Type 0) (same : Type 0) (error : EditError) → Tested tests P same (Err error) → Tested tests Q same (Err error)
+same_exit tests P Q same (Refused r) h = h
+same_exit tests P Q same Memory h = h
+
+-- nothing changes where nothing can
+pub asked : {T : Type 0} (tests : List (Refusal → Type 0)) (Done : T → Type 0) (old : Content) (result : Result T EditError) → IsTested tests Done result → Tested tests Done (old ≡ old) result
+asked tests Done old (Ok value) h = h
+asked tests Done old (Err (Refused r)) h = (h.0, refl)
+asked tests Done old (Err Memory) h = refl
 
 -- without a current connection it is refused
 pub unconnected : {T : Type 0} (limits : Limits) (number : ℕ) (old : Content) (s : Statement) (Done : T → Type 0) (same : Type 0) → who_of old.sessions number ≡ None → same
@@ -149,15 +174,20 @@ revised limits number old new who s (Err (Refused r)) is kept h =
     (inr (connected_passes old.sessions number who is, inl (who, is, h.0)), λ i. record { catalogue = h.1 i; sessions = kept i })
 revised limits number old new who s (Err Memory) is kept h = λ i. record { catalogue = h i; sessions = kept i }
 
--- an error of a part is that of the whole
-pub same_exit : {T U : Type 0} (tests : List (Refusal → Type 0)) (P : T → Type 0) (Q : U → Type 0) (same : Type 0) (error : EditError) → Tested tests P same (Err error) → Tested tests Q same (Err error)
-same_exit tests P Q same (Refused r) h = h
-same_exit tests P Q same Memory h = h
+-- what is read was written
+pub written : (text : List ℕ) (s : Statement) → Reads text s → IsWritten s
+written text s reads = (reads.words, texts-have-words text reads.words reads.tokens, reads.grammar)
 
--- what the grammar gives beside types
-pub forms : (text : List ℕ) (s : Statement) → Reads text s → HasForms s
-forms text (CreateTable t) reads = table_forms text reads.words t reads.tokens reads.grammar
-forms text s reads = tt
+-- ---- SELECT
+
+-- it answers
+pub answered : (number : ℕ) (old : Content) (who : Who) (query : InfoQuery) (rows : Rows) → who_of old.sessions number ≡ Some who → refusal_of_query query ≡ None → IsAnswerFor old.catalogue who query rows.rows
+    → Passes (First (select_refusals number old query)) × IsAnswered query number old (Answered rows) old
+answered number old who query rows is none answers = (
+  passes_more (not_connected old.sessions number) (unanswered query ∷ []) (connected_passes old.sessions number who is)
+      (passes_more (unanswered query) [] (λ r h. let e = sym none ∙ h.1 in cc) passes_none),
+  record { who = who; current = is; rows = rows; answers = answers; told = refl; same = refl },
+)
 
 -- ---- answers
 
@@ -172,15 +202,15 @@ answer_refused limits number old new text s r passes reads first same = inl (rec
 })
 
 -- a statement that is done
-pub answer_done : (limits : Limits) (number : ℕ) (old new : Content) (text : List ℕ) (s : Statement) (warning : Option Warning) → Passes (First (bad_token text ∷ not_in_profile text ∷ syntax_error text ∷ [])) → Reads text s
-    → Passes (First (statement_refusals limits number old s)) → Changes s number old warning new → Answers limits number old text (success warning) new
-answer_done limits number old new text s warning passes reads none changes = inr (record {
+pub answer_done : (limits : Limits) (number : ℕ) (old new : Content) (text : List ℕ) (s : Statement) (outcome : Outcome) → Passes (First (bad_token text ∷ not_in_profile text ∷ syntax_error text ∷ [])) → Reads text s
+    → Passes (First (statement_refusals limits number old s)) → Changes s number old outcome new → Answers limits number old text (reply_of outcome) new
+answer_done limits number old new text s outcome passes reads none changes = inr (record {
   passes = passes_both (bad_token text ∷ not_in_profile text ∷ syntax_error text ∷ []) (for_statement text (λ t. First (statement_refusals limits number old t)) ∷ []) passes
       (passes_more (for_statement text (λ t. First (statement_refusals limits number old t))) []
       (λ r h. let same : h.0 ≡ s = reads_settled text h.0 s h.1 reads in none r (subst (λ (t : Statement). First (statement_refusals limits number old t) r) same h.2)) passes_none);
   statement = s;
   reads = reads;
-  warning = warning;
+  outcome = outcome;
   changes = changes;
   told = refl;
 })

@@ -14,27 +14,22 @@ use Rattle.std.proofs.lemmas.Map.Views.{All-values-insert_entry, All-values-set_
 use Rattle.std.proofs.lemmas.Option.{get_or_from_slice_get}
 use Rattle.std.proofs.lemmas.Slice.Eq.{bytes_eq-Decides}
 use Rattle.sql_tree.specs.declared.statement.Statement.{Statement}
-use Rattle.sql_tree.specs.declared.statement.Statement.TheVariants.{Connect, SetConnection, Disconnect, SetSchema, SetRole}
-use Rattle.cat_items.specs.declared.edit.Refusal.{Refusal}
+use Rattle.sql_tree.specs.declared.statement.Statement.TheVariants.{Connect, SetConnection, Disconnect, Select, SetSchema, SetRole}
 use Rattle.cat_items.specs.declared.edit.Refusal.TheVariants.{NotConnected, ConnectionInUse}
 use Rattle.cat_items.specs.declared.limits.Limits.{Limits}
 use Rattle.edit_rules.specs.First.{First, Passes}
-use Rattle.edit_rules.proofs.FirstLaws.{passes_rest}
-use Rattle.catalogue_edits.specs.declared.warning.Warning.{Warning}
+use Rattle.cat_engine.specs.declared.outcome.Outcome.{Outcome}
 use Rattle.cat_engine.specs.Connections.{connection_names, IsProperSession}
 use Rattle.cat_engine.specs.Contents.{Content, State}
 use Rattle.cat_engine.specs.Effects.{Changes, ChangesSession, connection_of}
-use Rattle.cat_engine.specs.Histories.{IsAfter, IsReached}
-use Rattle.cat_engine.specs.Refusals.{for_statement, role_chosen, statement_refusals}
+use Rattle.cat_engine.specs.Histories.{IsReached}
+use Rattle.cat_engine.specs.Refusals.{role_chosen, statement_refusals}
 use Rattle.cat_engine.specs.Sessions.{connected, disconnected, fresh, has_connection, is_named, place_of, session_of, set_for, switched, unless, with_session, with_setting, with_setting_at}
-use Rattle.cat_engine.specs.Steps.{IsDone, Step}
-use Rattle.cat_engine.specs.WordRefusals.{bad_token, not_in_profile, syntax_error}
-use Rattle.cat_engine.specs.declared.journal.Entry.{Entry}
-use Rattle.cat_engine.specs.declared.reply.Reply.{Reply}
 use Rattle.cat_engine.specs.declared.session.Connection.{Connection}
 use Rattle.cat_engine.specs.declared.session.Session.{Session}
 use Rattle.cat_engine.specs.declared.session.Setting.{Setting}
 use Rattle.cat_engine.specs.declared.session.Setting.TheVariants.{Schema, Role}
+use Rattle.cat_engine.proofs.Kept.{after_keeps}
 
 -- the name of a connection
 abbrev name_of : Connection → List ℕ
@@ -175,48 +170,27 @@ change_proper : (number : ℕ) (change : Session → Session) (old new : Content
 change_proper number change old new made keeps all =
     subst (λ (c : Content). AreProper c.sessions) (sym made) (with_session_proper old.sessions number (change (session_of old.sessions number)) all (keeps (session_of_proper old.sessions number all)))
 
-statement_proper : (limits : Limits) (number : ℕ) (old new : Content) (s : Statement) (warning : Option Warning) → Passes (First (statement_refusals limits number old s)) → Changes s number old warning new
+statement_proper : (limits : Limits) (number : ℕ) (old new : Content) (s : Statement) (outcome : Outcome) → Passes (First (statement_refusals limits number old s)) → Changes s number old outcome new
     → AreProper old.sessions → AreProper new.sessions
-statement_proper limits number old new (Connect c) warning passes changes =
+statement_proper limits number old new (Connect c) outcome passes changes =
     let free : has_connection (session_of old.sessions number) (connection_of c).name ≡ false = false_from_ne_true _ (λ is. passes ConnectionInUse (inl (is, refl))) in
     change_proper number (λ s. connected s (connection_of c)) old new changes.0 (connected_proper (session_of old.sessions number) (connection_of c) free)
-statement_proper limits number old new (SetConnection name) warning passes changes =
+statement_proper limits number old new (SetConnection name) outcome passes changes =
     let found : has_connection (session_of old.sessions number) name ≡ true = true_from_ne_false _ (λ is. passes NotConnected (inl (is, refl))) in
     change_proper number (λ s. switched s name) old new changes.0 (switched_proper (session_of old.sessions number) name found)
-statement_proper limits number old new (Disconnect name) warning passes changes =
+statement_proper limits number old new (Disconnect name) outcome passes changes =
     change_proper number (λ s. disconnected s name) old new changes.0 (disconnected_proper (session_of old.sessions number) name)
-statement_proper limits number old new (SetSchema name) warning passes changes =
+statement_proper limits number old new (SetSchema name) outcome passes changes =
     change_proper number (λ s. set_for s (Schema name)) old new changes.0 (set_for_proper (session_of old.sessions number) (Schema name))
-statement_proper limits number old new (SetRole choice) warning passes changes =
+statement_proper limits number old new (SetRole choice) outcome passes changes =
     change_proper number (λ s. set_for s (Role (role_chosen choice))) old new changes.0 (set_for_proper (session_of old.sessions number) (Role (role_chosen choice)))
-statement_proper limits number old new s warning passes changes = λ all. subst AreProper (sym changes.sessions) all
+statement_proper limits number old new (Select query) outcome passes changes = λ all. subst (λ (c : Content). AreProper c.sessions) (sym changes.same) all
+statement_proper limits number old new s outcome passes changes = λ all. subst AreProper (sym changes.2.sessions) all
 
 -- ---- histories
 
--- where all tests pass, those behind the first ones do
-passes_behind : (tests others : List (Refusal → Type 0)) → Passes (First (tests ++ others)) → Passes (First others)
-passes_behind [] others all = all
-passes_behind (test ∷ tests) others all = passes_behind tests others (passes_rest test (tests ++ others) all)
-
-done_proper : (limits : Limits) (number : ℕ) (old : Content) (text : List ℕ) (reply : Reply) (new : Content) → IsDone limits number old text reply new → AreProper old.sessions → AreProper new.sessions
-done_proper limits number old text reply new done =
-    let later = passes_behind (bad_token text ∷ not_in_profile text ∷ syntax_error text ∷ []) (for_statement text (λ s. First (statement_refusals limits number old s)) ∷ []) done.passes in
-    statement_proper limits number old new done.statement done.warning (λ refusal refuses. later refusal (inl (done.statement, done.reads, refuses))) done.changes
-
-step_proper : (old : State) (number : ℕ) (text : List ℕ) (reply : Reply) (new : State) → Step old number text reply new → AreProper old.content.sessions → AreProper new.content.sessions
-step_proper old number text reply new step all =
-    elim step [
-      | inl away ↦ subst (λ (s : State). AreProper s.content.sessions) (sym away.same) all
-      | inr entered ↦ elim entered.answers [
-        | inl refused ↦ subst (λ (c : Content). AreProper c.sessions) (sym refused.same) all
-        | inr done ↦ done_proper old.limits number old.content text reply new.content done all
-      ]
-    ]
-
-after_proper : (start : State) (history : List Entry) (state : State) → IsAfter start history state → AreProper start.content.sessions → AreProper state.content.sessions
-after_proper start [] state after all = subst (λ (s : State). AreProper s.content.sessions) (sym after) all
-after_proper start (entry ∷ entries) state after all = after_proper after.1 entries state after.3 (step_proper start entry.session entry.text after.0 after.1 after.2 all)
-
 pub reached_proper : (state : State) → IsReached state → (number : ℕ) → IsProperSession (session_of state.content.sessions number)
 reached_proper state reached number =
-    session_of_proper state.content.sessions number (after_proper reached.start state.journal state reached.after (subst AreProper (sym reached.opening.sessions) (All-nil IsProperSession)))
+    session_of_proper state.content.sessions number
+    (after_keeps (λ (c : Content). AreProper c.sessions) (λ limits number old new s outcome is. statement_proper limits number old new s outcome) reached.start state.journal state reached.after
+    (subst AreProper (sym reached.opening.sessions) (All-nil IsProperSession)))

@@ -1,9 +1,10 @@
 -- A history with one entry more.
-use Rattle.std.proofs.Common.{◌≡◌, ◌≤◌, ◌↔◌, ℕ, ◌+◌, List, [], ◌∷◌, ◌++◌, length, sym, subst, refl, inr, arith}
-use Rattle.std.specs.List.{Contains}
+use Rattle.std.proofs.Common.{◌≡◌, ◌≢◌, ◌≤◌, ◌↔◌, ℕ, ◌+◌, List, [], ◌∷◌, ◌++◌, length, sym, subst, refl, inr, arith}
+use Rattle.std.specs.List.{All, AllPairs, Contains}
 use Rattle.cat_items.specs.declared.item.Item.{Item}
 use Rattle.cat_items.specs.declared.limits.Limits.{Limits}
 use Rattle.cat_items.specs.Catalogues.{IsInOrder, IsUserOf}
+use Rattle.cat_items.specs.Shape.{IsAuthorizationName}
 use Rattle.cat_engine.specs.Contents.{Content, State, bytes_of, bytes_held}
 use Rattle.cat_engine.specs.Histories.{IsOpening, IsAfter, HasRoomFor, IsReached}
 use Rattle.cat_engine.specs.Steps.{Step, IsEntered}
@@ -38,23 +39,26 @@ reached_more old new number text reply reached few entered =
     let entry : Entry = record { session = number; text = text } in
     let room : bytes_held old.journal + bytes_of text ≤ old.limits.journal = omega (arith, entered.room) in
     record {
-      users = reached.users;
+      distinct = subst (AllPairs (λ a b. a ≢ b)) (sym entered.users) reached.distinct;
+      allowed = subst (All IsAuthorizationName) (sym entered.users) reached.allowed;
       start = reached.start;
-      opening = subst (λ l. IsOpening reached.users l reached.start) (sym entered.limits) reached.opening;
+      opening = subst (λ u. IsOpening u new.limits reached.start) (sym entered.users) (subst (λ l. IsOpening old.users l reached.start) (sym entered.limits) reached.opening);
       after = subst (λ j. IsAfter reached.start j new) (sym entered.journal) (is_after-more reached.start old.journal entry old new reply reached.after (inr entered));
       legal = subst (λ j. HasRoomFor new.limits.journal 0 j) (sym entered.journal)
           (subst (λ l. HasRoomFor l.journal 0 (old.journal ++ entry ∷ [])) (sym entered.limits) (has_room-more old.limits.journal 0 old.journal entry reached.legal few (omega (arith, room))));
     }
 
 -- the state that a book opens with
-pub opened : (users : List (List ℕ)) (limits : Limits) (content : Content) → IsInOrder content.catalogue → ((x : Item) → Contains content.catalogue x ↔ IsUserOf users x) → content.sessions ≡ []
-    → IsReached (record { content = content; journal = []; limits = limits })
-opened users limits content order members sessions =
-    let start : State = record { content = content; journal = []; limits = limits } in
+pub opened : (users : List (List ℕ)) (limits : Limits) (content : Content) → AllPairs (λ a b. a ≢ b) users → All IsAuthorizationName users
+    → IsInOrder content.catalogue → ((x : Item) → Contains content.catalogue x ↔ IsUserOf users x) → content.sessions ≡ []
+    → IsReached (record { users = users; content = content; journal = []; limits = limits })
+opened users limits content distinct allowed order members sessions =
+    let start : State = record { users = users; content = content; journal = []; limits = limits } in
     record {
-      users = users;
+      distinct = distinct;
+      allowed = allowed;
       start = start;
-      opening = record { order = order; members = members; sessions = sessions; journal = refl; within = refl };
+      opening = record { order = order; members = members; sessions = sessions; journal = refl; within = refl; named = refl };
       after = refl;
       legal = tt;
     }

@@ -1,6 +1,12 @@
+pub mod AnswerLaws
 pub mod Answering
+pub mod ConnectedUsers
 pub mod Connections
 pub mod Decided
+pub mod GoodStates
 pub mod HistoryLaws
+pub mod Kept
+pub mod LegalLaws
 pub mod SessionLaws
 pub mod Settled
+pub mod SharedLaws

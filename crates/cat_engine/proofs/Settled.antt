@@ -1,7 +1,7 @@
 -- A state, a session and a text settle the reply and the next state.
 use Rattle.std.proofs.Common.{◌≡◌, ℕ, List, [], ◌∷◌, Option, Some, sym, ◌∙◌, ap, subst, inl, inr}
 use Rattle.sql_tree.specs.declared.statement.Statement.{Statement}
-use Rattle.sql_tree.specs.declared.statement.Statement.TheVariants.{Connect, SetConnection, Disconnect, SetSchema, SetRole}
+use Rattle.sql_tree.specs.declared.statement.Statement.TheVariants.{Connect, SetConnection, Disconnect, Select, SetSchema, SetRole}
 use Rattle.sql_grammar.specs.StatementRules.{Grammar}
 use Rattle.sql_grammar.proofs.StatementProofs.{only}
 use Rattle.cat_items.specs.declared.edit.Refusal.{Refusal}
@@ -14,12 +14,17 @@ use Rattle.catalogue_edits.specs.declared.warning.Warning.{Warning}
 use Rattle.catalogue_edits.specs.Revisions.{IsRevised, revision_refusals}
 use Rattle.catalogue_edits.proofs.Settled.{refusal_settled, revision_settled}
 use Rattle.cat_engine.specs.Contents.{Content, State}
-use Rattle.cat_engine.specs.Effects.{Changes, Revises, success}
+use Rattle.cat_engine.specs.Effects.{Changes, IsAnswered, Revises, outcome_of, reply_of}
 use Rattle.cat_engine.specs.Histories.{IsAfter, IsReplyAt}
 use Rattle.cat_engine.specs.Refusals.{for_current, for_statement, session_edit_refusals, invalid_role, role_chosen, statement_refusals, text_refusals}
 use Rattle.cat_engine.specs.Steps.{Answers, Step}
 use Rattle.cat_engine.specs.WordRefusals.{Reads, bad_token}
 use Rattle.cat_engine.specs.declared.journal.Entry.{Entry}
+use Rattle.sql_tree.specs.declared.statement.InfoQuery.{InfoQuery}
+use Rattle.information_schema.specs.Answers.{IsAnswerFor}
+use Rattle.cat_engine.specs.declared.outcome.Outcome.{Outcome}
+use Rattle.cat_engine.specs.declared.outcome.Outcome.TheVariants.{Answered}
+use Rattle.cat_engine.proofs.AnswerLaws.{answer_settled_for, unanswered_settled}
 use Rattle.cat_engine.specs.declared.reply.Reply.{Reply}
 use Rattle.cat_engine.specs.declared.reply.Reply.TheVariants.{Refused}
 use Rattle.cat_engine.specs.declared.session.Session.{Session}
@@ -55,6 +60,7 @@ statement_settled limits number old (SetRole choice) = (
   (λ a b p q. p.1 ∙ sym q.1),
   (for_current_settled old.sessions number (λ who. invalid_role old.catalogue who (role_chosen choice)) (λ who a b p q. p.1 ∙ sym q.1), tt),
 )
+statement_settled limits number old (Select query) = ((λ a b p q. p.1 ∙ sym q.1), (unanswered_settled query, tt))
 statement_settled limits number old s = edit_settled limits number old s
 
 for_statement_settled : (text : List ℕ) (test : Statement → Refusal → Type 0) → ((s : Statement) → IsSettled (test s)) → IsSettled (for_statement text test)
@@ -83,13 +89,21 @@ revises_settled s number old v w a b p q =
     let one = revision_settled old.catalogue q.who s v w a.catalogue b.catalogue (subst (λ who. IsRevised old.catalogue who s v a.catalogue) same p.revised) q.revised in
     (one.0, same_content a b one.1 (p.sessions ∙ sym q.sessions))
 
-changes_settled : (s : Statement) (number : ℕ) (old : Content) (v w : Option Warning) (a b : Content) → Changes s number old v a → Changes s number old w b → (v ≡ w) × (a ≡ b)
+answered_settled : (query : InfoQuery) (number : ℕ) (old : Content) (v w : Outcome) (a b : Content) → IsAnswered query number old v a → IsAnswered query number old w b → (v ≡ w) × (a ≡ b)
+answered_settled query number old v w a b p q =
+    let same : p.who ≡ q.who = let e : Some p.who ≡ Some q.who = sym p.current ∙ q.current in cc in
+    let rows : p.rows.rows ≡ q.rows.rows = answer_settled_for old.catalogue q.who query p.rows.rows q.rows.rows (subst (λ who. IsAnswerFor old.catalogue who query p.rows.rows) same p.answers) q.answers in
+    let whole : p.rows ≡ q.rows = λ i. record { rows = rows i } in
+    (p.told ∙ ap Answered whole ∙ sym q.told, p.same ∙ sym q.same)
+
+changes_settled : (s : Statement) (number : ℕ) (old : Content) (v w : Outcome) (a b : Content) → Changes s number old v a → Changes s number old w b → (v ≡ w) × (a ≡ b)
 changes_settled (Connect c) number old v w a b p q = (p.1 ∙ sym q.1, p.0 ∙ sym q.0)
 changes_settled (SetConnection name) number old v w a b p q = (p.1 ∙ sym q.1, p.0 ∙ sym q.0)
 changes_settled (Disconnect name) number old v w a b p q = (p.1 ∙ sym q.1, p.0 ∙ sym q.0)
 changes_settled (SetSchema name) number old v w a b p q = (p.1 ∙ sym q.1, p.0 ∙ sym q.0)
 changes_settled (SetRole choice) number old v w a b p q = (p.1 ∙ sym q.1, p.0 ∙ sym q.0)
-changes_settled s number old v w a b p q = revises_settled s number old v w a b p q
+changes_settled (Select query) number old v w a b p q = answered_settled query number old v w a b p q
+changes_settled s number old v w a b p q = let one = revises_settled s number old p.0 q.0 a b p.2 q.2 in (p.1 ∙ ap outcome_of one.0 ∙ sym q.1, one.1)
 
 answer_settled : (limits : Limits) (number : ℕ) (old : Content) (text : List ℕ) (r s : Reply) (a b : Content) → Answers limits number old text r a → Answers limits number old text s b → (r ≡ s) × (a ≡ b)
 answer_settled limits number old text r s a b p q =
@@ -102,13 +116,13 @@ answer_settled limits number old text r s a b p q =
         | inl y ↦ absurd (x.passes y.refusal y.first)
         | inr y ↦
             let same : x.statement ≡ y.statement = reads_settled text x.statement y.statement x.reads y.reads in
-            let one = changes_settled x.statement number old x.warning y.warning a b x.changes (subst (λ t. Changes t number old y.warning b) (sym same) y.changes) in
-            (x.told ∙ ap success one.0 ∙ sym y.told, one.1)
+            let one = changes_settled x.statement number old x.outcome y.outcome a b x.changes (subst (λ t. Changes t number old y.outcome b) (sym same) y.changes) in
+            (x.told ∙ ap reply_of one.0 ∙ sym y.told, one.1)
       ]
     ]
 
-same_state : (a b : State) → a.content ≡ b.content → a.journal ≡ b.journal → a.limits ≡ b.limits → a ≡ b
-same_state a b p q r i = record { content = p i; journal = q i; limits = r i }
+pub same_state : (a b : State) → a.users ≡ b.users → a.content ≡ b.content → a.journal ≡ b.journal → a.limits ≡ b.limits → a ≡ b
+same_state a b u p q r i = record { users = u i; content = p i; journal = q i; limits = r i }
 
 pub step_settled : (old : State) (number : ℕ) (text : List ℕ) (r s : Reply) (a b : State) → Step old number text r a → Step old number text s b → (r ≡ s) × (a ≡ b)
 step_settled old number text r s a b p q =
@@ -118,7 +132,7 @@ step_settled old number text r s a b p q =
         | inl y ↦ absurd (x.room y.full)
         | inr y ↦
             let same = answer_settled old.limits number old.content text r s a.content b.content x.answers y.answers in
-            (same.0, same_state a b same.1 (x.journal ∙ sym y.journal) (x.limits ∙ sym y.limits))
+            (same.0, same_state a b (x.users ∙ sym y.users) same.1 (x.journal ∙ sym y.journal) (x.limits ∙ sym y.limits))
       ]
     ]
 

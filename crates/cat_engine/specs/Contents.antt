@@ -1,5 +1,6 @@
 -- What statements read and change, and the state of a book.
 use Rattle.std.specs.Prelude.{ℕ, ◌+◌, ◌<◌, List, [], ◌∷◌, length}
+use Rattle.sql_names.specs.NameBytes.{NameBytes}
 use Rattle.cat_items.specs.declared.item.Item.{Item}
 use Rattle.cat_items.specs.declared.limits.Limits.{Limits}
 use Rattle.cat_engine.specs.declared.journal.Entry.{Entry}
@@ -10,8 +11,9 @@ pub record Content : Type 0 where
   pub catalogue : List Item
   pub sessions : List (ℕ × Session)
 
--- with the journal, the oldest entry first, and the limits
+-- with the users that the book opened with, the journal, the oldest entry first, and the limits
 pub record State : Type 0 where
+  pub users : List NameBytes
   pub content : Content
   pub journal : List Entry
   pub limits : Limits

@@ -1,11 +1,12 @@
 -- Histories: what a book was, and what it answered.
-use Rattle.std.specs.Prelude.{◌≡◌, ◌↔◌, ◌≤◌, ℕ, ◌+◌, List, [], ◌∷◌, Some, take, length, slice_get}
-use Rattle.std.specs.List.{Contains}
+use Rattle.std.specs.Prelude.{◌≡◌, ◌≢◌, ◌↔◌, ◌≤◌, ℕ, ◌+◌, List, [], ◌∷◌, Some, take, length, slice_get}
+use Rattle.std.specs.List.{All, AllPairs, Contains}
 use Rattle.sql_names.specs.NameBytes.{NameBytes}
 use Rattle.cat_items.specs.declared.item.Item.{Item}
 use Rattle.cat_items.specs.declared.limits.Limits.{Limits}
 use Rattle.cat_items.specs.Catalogues.{IsInOrder, IsUserOf}
-use Rattle.cat_engine.specs.Contents.{State, bytes_of}
+use Rattle.cat_items.specs.Shape.{IsAuthorizationName}
+use Rattle.cat_engine.specs.Contents.{State, bytes_of, IsJournalFull}
 use Rattle.cat_engine.specs.Steps.{Step}
 use Rattle.cat_engine.specs.declared.journal.Entry.{Entry}
 use Rattle.cat_engine.specs.declared.reply.Reply.{Reply}
@@ -17,6 +18,7 @@ pub record IsOpening (users : List NameBytes) (limits : Limits) (state : State) 
   pub sessions : state.content.sessions ≡ []
   pub journal : state.journal ≡ []
   pub within : state.limits ≡ limits
+  pub named : state.users ≡ users
 
 -- the state after a history, which is one step after the other
 abbrev pub IsAfter : State → List Entry → State → Type 0
@@ -41,10 +43,16 @@ HasRoomFor limit held (entry ∷ entries) = (length entry.text ≤ 65535) × (he
 abbrev pub IsLegal : Limits → List Entry → Type 0
 IsLegal limits history = HasRoomFor limits.journal 0 history
 
--- the journal is a legal history, and the state is the one after it
+-- each entry is a statement's text that doesn't find the journal full, where it comes in its turn
+abbrev pub EachFindsRoom : State → List Entry → Type 0
+EachFindsRoom start history = (k : ℕ) (entry : Entry) (before : State) → slice_get history k ≡ Some entry → IsAfter start (take k history) before
+    → (length entry.text ≤ 65535) × (¬ (IsJournalFull before entry.text))
+
+-- the users differ, and may be users; the journal is a legal history, and the state is the one after it
 pub record IsReached (state : State) : Type 0 where
-  pub users : List NameBytes
+  pub distinct : AllPairs (λ a b. a ≢ b) state.users
+  pub allowed : All IsAuthorizationName state.users
   pub start : State
-  pub opening : IsOpening users state.limits start
+  pub opening : IsOpening state.users state.limits start
   pub after : IsAfter start state.journal state
   pub legal : IsLegal state.limits state.journal

@@ -7,5 +7,6 @@ pub mod Histories
 pub mod Refusals
 pub mod Runs
 pub mod Sessions
+pub mod Shared
 pub mod Steps
 pub mod WordRefusals

@@ -6,9 +6,10 @@ use Rattle.sql_tree.specs.declared.statement.Connect.{Connect as ConnectParts}
 use Rattle.sql_tree.specs.declared.statement.RoleChoice.{RoleChoice}
 use Rattle.sql_tree.specs.declared.statement.RoleChoice.TheVariants.{Literal, Identifier, NoRole}
 use Rattle.sql_tree.specs.declared.statement.Statement.{Statement}
-use Rattle.sql_tree.specs.declared.statement.Statement.TheVariants.{Connect, SetConnection, Disconnect, SetSchema, SetRole}
+use Rattle.sql_tree.specs.declared.statement.InfoQuery.{InfoQuery}
+use Rattle.sql_tree.specs.declared.statement.Statement.TheVariants.{Connect, SetConnection, Disconnect, Select, SetSchema, SetRole}
 use Rattle.cat_items.specs.declared.edit.Refusal.{Refusal}
-use Rattle.cat_items.specs.declared.edit.Refusal.TheVariants.{InvalidRole}
+use Rattle.cat_items.specs.declared.edit.Refusal.TheVariants.{InvalidRole, TypeMismatch, UnknownName}
 use Rattle.cat_items.specs.declared.edit.Who.{Who}
 use Rattle.cat_items.specs.declared.item.Item.{Item}
 use Rattle.cat_items.specs.declared.limits.Limits.{Limits}
@@ -16,6 +17,9 @@ use Rattle.cat_items.specs.declared.need.Auth.TheVariants.{Named}
 use Rattle.cat_items.specs.Reach.{Has, Reaches}
 use Rattle.cat_items.specs.Rights.{IsRole}
 use Rattle.edit_rules.specs.First.{First}
+use Rattle.information_schema.specs.Queries.{refusal as refusal_of_query}
+use Rattle.information_schema.specs.declared.answers.InfoError.{InfoError}
+use Rattle.information_schema.specs.declared.answers.InfoError.TheVariants as info
 use Rattle.catalogue_edits.specs.Revisions.{revision_refusals}
 use Rattle.cat_engine.specs.ConnectionRefusals.{no_such_connection, not_connected, connection_in_use, unknown_user}
 use Rattle.cat_engine.specs.Contents.{Content}
@@ -49,6 +53,20 @@ invalid_role c who role refusal = (¬ (MayBeRole c who role)) × (refusal ≡ In
 abbrev pub set_role_refusals : ℕ → Content → RoleChoice → List (Refusal → Type 0)
 set_role_refusals number old choice = not_connected old.sessions number ∷ for_current old.sessions number (λ who. invalid_role old.catalogue who (role_chosen choice)) ∷ []
 
+-- what is told where there is no answer
+abbrev pub IsTold : InfoError → Refusal → Type 0
+IsTold (info.UnknownName path) refusal = refusal ≡ UnknownName path
+IsTold info.TypeMismatch refusal = refusal ≡ TypeMismatch
+IsTold info.Memory refusal = ⊥
+
+-- a name of the query doesn't stand in the Information Schema, or a column is compared with a value of another sort
+abbrev pub unanswered : InfoQuery → Refusal → Type 0
+unanswered query refusal = (error : InfoError) × (refusal_of_query query ≡ Some error) × IsTold error refusal
+
+-- the tests of SELECT, in their order
+abbrev pub select_refusals : ℕ → Content → InfoQuery → List (Refusal → Type 0)
+select_refusals number old query = not_connected old.sessions number ∷ unanswered query ∷ []
+
 -- the tests of a statement that edits the catalogue, in their order
 abbrev pub session_edit_refusals : Limits → ℕ → Content → Statement → List (Refusal → Type 0)
 session_edit_refusals limits number old statement =
@@ -63,6 +81,7 @@ statement_refusals limits number old (SetConnection name) = no_such_connection o
 statement_refusals limits number old (Disconnect name) = no_such_connection old.sessions number name ∷ []
 statement_refusals limits number old (SetSchema name) = not_connected old.sessions number ∷ []
 statement_refusals limits number old (SetRole choice) = set_role_refusals number old choice
+statement_refusals limits number old (Select query) = select_refusals number old query
 statement_refusals limits number old statement = session_edit_refusals limits number old statement
 
 -- a test of the statement that the text is

@@ -1,14 +1,14 @@
 -- One step of a book: a session's text, the reply, and the state after it.
-use Rattle.std.specs.Prelude.{◌≡◌, ◌⊎◌, ℕ, List, [], ◌∷◌, ◌++◌, Option}
+use Rattle.std.specs.Prelude.{◌≡◌, ◌⊎◌, ℕ, List, [], ◌∷◌, ◌++◌}
 use Rattle.sql_tree.specs.declared.statement.Statement.{Statement}
 use Rattle.cat_items.specs.declared.edit.Refusal.{Refusal}
 use Rattle.cat_items.specs.declared.limits.Limits.{Limits}
 use Rattle.edit_rules.specs.First.{First, Passes}
-use Rattle.catalogue_edits.specs.declared.warning.Warning.{Warning}
 use Rattle.cat_engine.specs.Contents.{Content, State, bytes_held, IsJournalFull}
-use Rattle.cat_engine.specs.Effects.{Changes, success}
+use Rattle.cat_engine.specs.Effects.{Changes, reply_of}
 use Rattle.cat_engine.specs.Refusals.{text_refusals}
 use Rattle.cat_engine.specs.WordRefusals.{Reads}
+use Rattle.cat_engine.specs.declared.outcome.Outcome.{Outcome}
 use Rattle.cat_engine.specs.declared.reply.Reply.{Reply}
 use Rattle.cat_engine.specs.declared.reply.Reply.TheVariants.{Refused, JournalFull, OutOfMemory}
 
@@ -24,9 +24,9 @@ pub record IsDone (limits : Limits) (number : ℕ) (old : Content) (text : List 
   pub passes : Passes (First (text_refusals limits number old text))
   pub statement : Statement
   pub reads : Reads text statement
-  pub warning : Option Warning
-  pub changes : Changes statement number old warning new
-  pub told : reply ≡ success warning
+  pub outcome : Outcome
+  pub changes : Changes statement number old outcome new
+  pub told : reply ≡ reply_of outcome
 
 abbrev pub Answers : Limits → ℕ → Content → List ℕ → Reply → Content → Type 0
 Answers limits number old text reply new = IsRefused limits number old text reply new ⊎ IsDone limits number old text reply new
@@ -37,6 +37,7 @@ pub record IsEntered (old : State) (number : ℕ) (text : List ℕ) (reply : Rep
   pub answers : Answers old.limits number old.content text reply new.content
   pub journal : new.journal ≡ old.journal ++ record { session = number; text = text } ∷ []
   pub limits : new.limits ≡ old.limits
+  pub users : new.users ≡ old.users
 
 -- the journal is full, and nothing changes
 pub record IsTurnedAway (old : State) (text : List ℕ) (reply : Reply) (new : State) : Type 0 where

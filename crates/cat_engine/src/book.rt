@@ -1,6 +1,6 @@
 //! The book.
 
-ghost use Rattle.std.specs.Prelude.{◌≡◌, ◌≢◌, ◌≤◌, length, IfOk, OnErr};
+ghost use Rattle.std.specs.Prelude.{◌≡◌, ◌≢◌, ◌≤◌, ◌^◌, length, IfOk, OnErr};
 ghost use Rattle.std.specs.List.{AllPairs, All};
 ghost use Rattle.std.specs.Option.{option_copied};
 ghost use Rattle.cat_items.specs.Good.{IsGood};
@@ -18,6 +18,7 @@ use item_index::Steps;
 use sql_tree::{Name, Text};
 use std::alloc::{AllocError, Global};
 use std::marker::Model;
+use std::snapshot::Snapshot;
 use std::sync::ledger::Ledger;
 
 /// What a journal holds of each entry beside its text, in bytes.
@@ -25,10 +26,11 @@ const ENTRY_BYTES: u64 = 64;
 
 /// One SQL catalogue, the connections of its sessions, and the journal of the statements that made them.
 ///
-/// Contracts see the catalogue's items, the sessions, the journal and the limits.
+/// Contracts see the users that it opened with, the catalogue's items, the sessions, the journal and the limits.
 #[derive(Drop)]
 pub struct Book {
     alloc: Global,
+    users: Snapshot<Vec<Name>>,
     environment: Environment,
     journal: Vec<Entry>,
     held: u64,
@@ -50,10 +52,10 @@ impl Model for Book {
     ghost use Rattle.cat_engine.specs.Contents.{bytes_held};
     ghost use Rattle.cat_engine.specs.Histories.{IsReached};
 
-    ghost view = { λ b. record { content = b.environment; journal = b.journal.items; limits = b.limits } };
+    ghost view = { λ b. record { users = b.users.value.items; content = b.environment; journal = b.journal.items; limits = b.limits } };
 
     ghost invariant = { λ b. (b.held ≡ bytes_held b.journal.items)
-        × IsReached (record { content = b.environment; journal = b.journal.items; limits = b.limits }) };
+        × IsReached (record { users = b.users.value.items; content = b.environment; journal = b.journal.items; limits = b.limits }) };
 }
 
 impl Book {
@@ -67,6 +69,7 @@ impl Book {
     {
         Ok(Book {
             alloc,
+            users: Snapshot::of(users),
             environment: Environment::new(alloc, users)?,
             journal: Vec::new(alloc),
             held: 0,
@@ -105,6 +108,8 @@ impl Book {
         requires { length text.now ≤ 65535 }
         ensures step { StepOrNone self.old session text.now result self.new }
         ensures steps { steps.new ≡ steps.old }
+        ensures reached { IsReached self.old }
+        ensures few { length self.new.journal ≤ 2 ^ 63 }
     {
         let _ = steps;
         let size = ENTRY_BYTES + text.len() as u64;

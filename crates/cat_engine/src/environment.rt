@@ -7,8 +7,8 @@ ghost use Rattle.cat_items.specs.declared.item.Item.{Item as ItemSpec};
 ghost use Rattle.cat_items.specs.Shape.{IsAuthorizationName};
 ghost use Rattle.cat_items.specs.Good.{IsGood};
 ghost use Rattle.cat_items.specs.Catalogues.{IsInOrder, IsUserOf};
-ghost use Rattle.define_edit.specs.Creations.{HasForms};
-ghost use Rattle.edit_rules.specs.First.{HasPassed, Tested};
+ghost use Rattle.statement_forms.specs.Written.{IsWritten};
+ghost use Rattle.edit_rules.specs.First.{HasPassed, IsTested, Tested};
 ghost use Rattle.catalogue_edits.specs.Statements.{IsBuiltEdit};
 ghost use Rattle.cat_engine.specs.Built.{IsBuilt};
 ghost use Rattle.cat_engine.specs.ConnectionRefusals as connections;
@@ -16,8 +16,10 @@ ghost use Rattle.cat_engine.specs.Effects as effects;
 ghost use Rattle.cat_engine.specs.Refusals as refusals;
 ghost use Rattle.cat_engine.specs.Sessions.{who_of, connected, switched, disconnected, set_for};
 ghost use Rattle.cat_engine.specs.Steps.{Answers};
+ghost use Rattle.cat_engine.specs.declared.outcome.Outcome.TheVariants.{Done};
 ghost use Rattle.cat_engine.specs.declared.session.Setting.TheVariants.{Schema, Role};
 
+use crate::outcome::{Outcome, outcome_of, reply_of};
 use crate::reading::read;
 use crate::reply::Reply;
 use crate::session::{Connection, Setting};
@@ -25,8 +27,9 @@ use crate::sessions::Sessions;
 use cat_items::{Auth, Catalogue, EditError, Limits, Refusal, Who};
 use catalogue_edits::{Warning, revise};
 use edit_rules::{is_role, is_user};
+use information_schema::{InfoError, Rows, answer};
 use role_graph::reaches;
-use sql_tree::{Connect, Name, RoleChoice, Statement};
+use sql_tree::{Connect, InfoQuery, Name, RoleChoice, Statement};
 use std::alloc::{AllocError, Global};
 use std::marker::Model;
 
@@ -53,16 +56,6 @@ impl Model for Environment {
     ghost view = { λ e. record { catalogue = e.catalogue.items; sessions = e.sessions } };
 
     ghost invariant = { λ e. IsGood e.catalogue.items };
-}
-
-// The reply to a statement that is done.
-fn success(warning: Option<Warning>) -> Reply
-    ensures { result ≡ effects.success warning }
-{
-    match warning {
-        None => Reply::Ok,
-        Some(warning) => Reply::Warn(warning),
-    }
 }
 
 fn role_chosen(choice: RoleChoice) -> Option<Name>
@@ -132,9 +125,9 @@ impl Environment {
         self.sessions.who(number)
     }
 
-    fn connect(&mut self, alloc: Global, number: u32, parts: Connect) -> Result<(), EditError>
+    fn connect(&mut self, alloc: Global, number: u32, parts: Connect) -> Result<Outcome, EditError>
         ensures { Tested (connections.connection_in_use self.old.sessions number (refusals.connection_name parts) ∷ connections.unknown_user self.old.catalogue parts.user ∷ [])
-            (λ _. effects.ChangesSession number (λ s. connected s (effects.connection_of parts)) self.old self.new) (self.new ≡ self.old) result }
+            (λ outcome. effects.ChangesSession number (λ s. connected s (effects.connection_of parts)) self.old self.new × (outcome ≡ Done)) (self.new ≡ self.old) result }
     {
         let Connect {
             server,
@@ -158,45 +151,50 @@ impl Environment {
         };
         self.sessions
             .connect(alloc, number, Connection { name, who })?;
-        Ok(())
+        Ok(Outcome::Done)
     }
 
-    fn switch(&mut self, number: u32, name: Name) -> Result<(), EditError>
+    fn switch(&mut self, number: u32, name: Name) -> Result<Outcome, EditError>
         ensures { Tested (connections.no_such_connection self.old.sessions number name ∷ [])
-            (λ _. effects.ChangesSession number (λ s. switched s name) self.old self.new) (self.new ≡ self.old) result }
+            (λ outcome. effects.ChangesSession number (λ s. switched s name) self.old self.new × (outcome ≡ Done)) (self.new ≡ self.old) result }
     {
         if !self.sessions.has(number, &name) {
             return Err(EditError::Refused(Refusal::NotConnected));
         }
         self.sessions.switch(number, name);
-        Ok(())
+        Ok(Outcome::Done)
     }
 
-    fn disconnect(&mut self, number: u32, name: &Name) -> Result<(), EditError>
+    fn disconnect(&mut self, number: u32, name: &Name) -> Result<Outcome, EditError>
         ensures { Tested (connections.no_such_connection self.old.sessions number name.now ∷ [])
-            (λ _. effects.ChangesSession number (λ s. disconnected s name.now) self.old self.new) (self.new ≡ self.old) result }
+            (λ outcome. effects.ChangesSession number (λ s. disconnected s name.now) self.old self.new × (outcome ≡ Done)) (self.new ≡ self.old) result }
     {
         if !self.sessions.has(number, name) {
             return Err(EditError::Refused(Refusal::NotConnected));
         }
         self.sessions.disconnect(number, name);
-        Ok(())
+        Ok(Outcome::Done)
     }
 
-    fn set_schema(&mut self, number: u32, schema: Name) -> Result<(), EditError>
+    fn set_schema(&mut self, number: u32, schema: Name) -> Result<Outcome, EditError>
         ensures { Tested (connections.not_connected self.old.sessions number ∷ [])
-            (λ _. effects.ChangesSession number (λ s. set_for s (Schema schema)) self.old self.new) (self.new ≡ self.old) result }
+            (λ outcome. effects.ChangesSession number (λ s. set_for s (Schema schema)) self.old self.new × (outcome ≡ Done)) (self.new ≡ self.old) result }
     {
         if self.sessions.who(number).is_none() {
             return Err(EditError::Refused(Refusal::NotConnected));
         }
         self.sessions.set(number, Setting::Schema(schema))?;
-        Ok(())
+        Ok(Outcome::Done)
     }
 
-    fn set_role(&mut self, alloc: Global, number: u32, choice: RoleChoice) -> Result<(), EditError>
+    fn set_role(
+        &mut self,
+        alloc: Global,
+        number: u32,
+        choice: RoleChoice,
+    ) -> Result<Outcome, EditError>
         ensures { Tested (refusals.set_role_refusals number self.old choice)
-            (λ _. effects.ChangesSession number (λ s. set_for s (Role (refusals.role_chosen choice))) self.old self.new) (self.new ≡ self.old) result }
+            (λ outcome. effects.ChangesSession number (λ s. set_for s (Role (refusals.role_chosen choice))) self.old self.new × (outcome ≡ Done)) (self.new ≡ self.old) result }
     {
         let role = role_chosen(choice);
         let Some(who) = self.sessions.who(number) else {
@@ -204,7 +202,7 @@ impl Environment {
         };
         test_role(alloc, &self.catalogue, who, &role)?;
         self.sessions.set(number, Setting::Role(role))?;
-        Ok(())
+        Ok(Outcome::Done)
     }
 
     // Makes of the catalogue what a statement makes of it.
@@ -216,7 +214,7 @@ impl Environment {
         statement: &Statement,
     ) -> Result<Option<Warning>, EditError>
         requires built { IsBuiltEdit statement.now }
-        requires forms { HasForms statement.now }
+        requires written { IsWritten statement.now }
         ensures { Tested (refusals.session_edit_refusals limits.now number self.old statement.now)
             (λ warning. effects.Revises statement.now number self.old warning self.new) (self.new ≡ self.old) result }
     {
@@ -226,41 +224,62 @@ impl Environment {
         }
     }
 
-    // Does what a statement says where nothing refuses it, and tells what it warns of.
+    // What is done where the catalogue is edited.
+    fn edit(
+        &mut self,
+        alloc: Global,
+        limits: &Limits,
+        number: u32,
+        statement: &Statement,
+    ) -> Result<Outcome, EditError>
+        requires built { IsBuiltEdit statement.now }
+        requires written { IsWritten statement.now }
+        ensures { Tested (refusals.session_edit_refusals limits.now number self.old statement.now)
+            (λ outcome. effects.Edits statement.now number self.old outcome self.new) (self.new ≡ self.old) result }
+    {
+        let warning = self.revise(alloc, limits, number, statement)?;
+        Ok(outcome_of(warning))
+    }
+
+    // The rows of the Information Schema that a query asks for.
+    fn select(&self, alloc: Global, number: u32, query: &InfoQuery) -> Result<Outcome, EditError>
+        ensures { IsTested (refusals.select_refusals number self.now query.now)
+            (λ outcome. effects.IsAnswered query.now number self.now outcome self.now) result }
+    {
+        let Some(who) = self.sessions.who(number) else {
+            return Err(EditError::Refused(Refusal::NotConnected));
+        };
+        match answer(alloc, &self.catalogue, who, query) {
+            Ok(rows) => Ok(Outcome::Answered(rows)),
+            Err(InfoError::UnknownName(path)) => {
+                Err(EditError::Refused(Refusal::UnknownName { path }))
+            }
+            Err(InfoError::TypeMismatch) => Err(EditError::Refused(Refusal::TypeMismatch)),
+            Err(InfoError::Memory) => Err(EditError::Memory),
+        }
+    }
+
+    // Does what a statement says where nothing refuses it.
     fn execute(
         &mut self,
         alloc: Global,
         limits: &Limits,
         number: u32,
         statement: Statement,
-    ) -> Result<Option<Warning>, EditError>
+    ) -> Result<Outcome, EditError>
         requires built { IsBuilt statement }
-        requires forms { HasForms statement }
+        requires written { IsWritten statement }
         ensures { Tested (refusals.statement_refusals limits.now number self.old statement)
-            (λ warning. effects.Changes statement number self.old warning self.new) (self.new ≡ self.old) result }
+            (λ outcome. effects.Changes statement number self.old outcome self.new) (self.new ≡ self.old) result }
     {
         match statement {
-            Statement::Connect(parts) => {
-                self.connect(alloc, number, parts)?;
-                Ok(None)
-            }
-            Statement::SetConnection(name) => {
-                self.switch(number, name)?;
-                Ok(None)
-            }
-            Statement::Disconnect(name) => {
-                self.disconnect(number, &name)?;
-                Ok(None)
-            }
-            Statement::SetSchema(schema) => {
-                self.set_schema(number, schema)?;
-                Ok(None)
-            }
-            Statement::SetRole(choice) => {
-                self.set_role(alloc, number, choice)?;
-                Ok(None)
-            }
-            edit => self.revise(alloc, limits, number, &edit),
+            Statement::Connect(parts) => self.connect(alloc, number, parts),
+            Statement::SetConnection(name) => self.switch(number, name),
+            Statement::Disconnect(name) => self.disconnect(number, &name),
+            Statement::SetSchema(schema) => self.set_schema(number, schema),
+            Statement::SetRole(choice) => self.set_role(alloc, number, choice),
+            Statement::Select(query) => self.select(alloc, number, &query),
+            edit => self.edit(alloc, limits, number, &edit),
         }
     }
 
@@ -281,7 +300,7 @@ impl Environment {
             Err(EditError::Memory) => return Err(AllocError),
         };
         match self.execute(alloc, limits, number, statement) {
-            Ok(warning) => Ok(success(warning)),
+            Ok(outcome) => Ok(reply_of(outcome)),
             Err(EditError::Refused(refusal)) => Ok(Reply::Refused(refusal)),
             Err(EditError::Memory) => Err(AllocError),
         }

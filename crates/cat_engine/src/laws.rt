@@ -1,11 +1,20 @@
 //! Laws of the steps of a book, over their definition alone.
 
-ghost use Rattle.std.specs.Prelude.{◌≡◌, ◌++◌, ◌∷◌, [], ℕ, List};
+ghost use Rattle.std.specs.Prelude.{◌≡◌, ◌↔◌, ◌++◌, ◌∷◌, [], ℕ, List, Some};
+ghost use Rattle.std.specs.List.{Contains};
+ghost use Rattle.sql_names.specs.NameBytes.{NameBytes};
 ghost use Rattle.cat_items.specs.declared.edit.Refusal.{Refusal};
+ghost use Rattle.cat_items.specs.declared.edit.Who.{Who};
+ghost use Rattle.cat_items.specs.declared.item.Item.TheVariants.{User};
+ghost use Rattle.cat_items.specs.Good.{IsGood};
+ghost use Rattle.cat_items.specs.Reach.{Has};
+ghost use Rattle.cat_items.specs.Rights.{IsAuthorization};
+ghost use Rattle.role_edit.specs.CreatedRoles.{IsTaken};
 ghost use Rattle.cat_engine.specs.Connections.{IsProperSession};
 ghost use Rattle.cat_engine.specs.Contents.{State};
-ghost use Rattle.cat_engine.specs.Histories.{IsAfter, IsReached, IsReplyAt};
-ghost use Rattle.cat_engine.specs.Sessions.{session_of};
+ghost use Rattle.cat_engine.specs.Histories.{IsAfter, IsReached, IsReplyAt, EachFindsRoom, IsLegal, IsOpening};
+ghost use Rattle.cat_engine.specs.Sessions.{session_of, who_of};
+ghost use Rattle.cat_items.specs.declared.limits.Limits.{Limits};
 ghost use Rattle.cat_engine.specs.Steps.{Step};
 ghost use Rattle.cat_engine.specs.declared.journal.Entry.{Entry};
 ghost use Rattle.cat_engine.specs.declared.reply.Reply.{Reply};
@@ -32,8 +41,49 @@ pub fn a_history_settles_its_replies()
     ensures { (start : State) (history : List Entry) (k : ℕ) (reply other : Reply) → IsReplyAt start history k reply → IsReplyAt start history k other → reply ≡ other }
 {}
 
+/// Users and limits have one opening: the catalogue of these users alone, no connection and an empty journal.
+pub fn users_and_limits_have_one_opening()
+    ensures { (users : List NameBytes) (limits : Limits) (one other : State) → IsOpening users limits one → IsOpening users limits other → one ≡ other }
+{}
+
+/// The journal after a legal history from an opening is that history.
+pub fn the_journal_is_the_history()
+    ensures { (users : List NameBytes) (limits : Limits) (start state : State) (history : List Entry) → IsOpening users limits start → IsLegal limits history
+        → IsAfter start history state → state.journal ≡ history }
+{}
+
+/// A history from an opening is legal exactly where each of its texts is a statement's and, at its place, doesn't find the
+/// journal full.
+pub fn a_legal_history_finds_room()
+    ensures { (users : List NameBytes) (limits : Limits) (start state : State) (history : List Entry) → IsOpening users limits start → IsAfter start history state
+        → (IsLegal limits history ↔ EachFindsRoom start history) }
+{}
+
 /// In each state that a book reaches, the connections of a session have names of their own, and the current one is one
 /// of them (SQL:2003 part 2, 17).
 pub fn connections_have_their_own_names()
     ensures { (state : State) → IsReached state → (number : ℕ) → IsProperSession (session_of state.content.sessions number) }
+{}
+
+/// In each state that a book reaches the catalogue is good: it holds exactly what finite chains of support hold of it and of
+/// the rights that the system could grant for it, and has the shape of a catalogue.
+pub fn reached_states_are_good()
+    ensures { (state : State) → IsReached state → IsGood state.content.catalogue }
+{}
+
+/// No statement makes, changes or destroys a user: those of each state that a book reaches are those that it opened with.
+pub fn users_are_those_of_the_opening()
+    ensures { (state : State) → IsReached state → (name : NameBytes) → Contains state.content.catalogue (User name) ↔ Contains state.users name }
+{}
+
+/// In each state that a book reaches, whom a session's current connection is for is a user of the catalogue.
+pub fn connected_users_stand()
+    ensures { (state : State) → IsReached state → (number : ℕ) (who : Who) → who_of state.content.sessions number ≡ Some who
+        → Contains state.content.catalogue (User who.user) }
+{}
+
+/// So a name is taken for CREATE ROLE exactly where a user or a role of the catalogue has it.
+pub fn taken_roles_are_those_that_stand()
+    ensures { (state : State) → IsReached state → (number : ℕ) (who : Who) → who_of state.content.sessions number ≡ Some who → (name : NameBytes)
+        → IsTaken state.content.catalogue who name ↔ Has state.content.catalogue (IsAuthorization name) }
 {}

@@ -22,7 +22,8 @@ fn is_built(statement: &Statement) -> bool
         | Statement::SetConnection(_)
         | Statement::Disconnect(_)
         | Statement::SetSchema(_)
-        | Statement::SetRole(_) => true,
+        | Statement::SetRole(_)
+        | Statement::Select(_) => true,
         edit => is_edit(edit),
     }
 }

@@ -2,6 +2,7 @@
 
 use cat_items::Refusal;
 use catalogue_edits::Warning;
+use information_schema::Rows;
 
 /// The answer to a statement.
 #[derive(Drop)]
@@ -9,6 +10,8 @@ pub enum Reply {
     Ok,
     /// The statement was done, and not all of it took effect.
     Warn(Warning),
+    /// The rows that a SELECT asked for.
+    Rows(Rows),
     Refused(Refusal),
     /// The journal has no room for the statement; so many bytes are held.
     JournalFull { held: u64 },

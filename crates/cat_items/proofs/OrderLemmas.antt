@@ -23,7 +23,7 @@ use Rattle.cat_items.specs.contracts.item.ItemOrd.TheImpl.Laws as laws
 use Rattle.cat_items.specs.contracts.need.NeedOrd.TheImpl.Laws as need_laws
 use Rattle.std.specs.Cmp.{IsTotalOrder}
 
-same_action : (a b : Action) → action.ghosts.cmp a b ≡ nat_cmp (action_number a) (action_number b)
+pub same_action : (a b : Action) → action.ghosts.cmp a b ≡ nat_cmp (action_number a) (action_number b)
 same_action Select Select = refl
 same_action Insert Insert = refl
 same_action Update Update = refl

@@ -4,7 +4,7 @@ use Rattle.std.specs.List.Sorted.{IsNonDecreasingBy, IsPartitionedBy, IsPartitio
 use Rattle.std.specs.Ordering.{nat_cmp, ordering_index, ordering_then, ordering_reverse, is_lt, is_le}
 use Rattle.std.specs.Option.{option_cmp}
 use Rattle.std.specs.Cmp.{IsTotalOrder}
-use Rattle.std.specs.Cmp.Lexicographic.{nat_list_cmp_total}
+use Rattle.std.specs.Cmp.Lexicographic.{slice_cmp, nat_list_cmp_total}
 use Rattle.std.specs.FinMap.{IsAntisymmetric, nat_cmp-IsAntisymmetric, slice_cmp-IsAntisymmetric}
 use Rattle.std.specs.declared.cmp.Ordering.{Ordering}
 use Rattle.std.specs.declared.cmp.Ordering.TheVariants.{Less, Equal, Greater}
@@ -16,14 +16,15 @@ use Rattle.sql_names.specs.Names.{name_cmp-IsAntisymmetric}
 use Rattle.sql_tree.specs.declared.rights.Action.{Action}
 use Rattle.sql_tree.specs.declared.rights.Action.TheVariants as action
 use Rattle.sql_names.specs.contracts.object.ObjectOrd.TheImpl.Laws as object_laws
+use Rattle.cat_items.specs.declared.need.Need.{Need}
 use Rattle.cat_items.specs.declared.item.Item.{Item}
 use Rattle.cat_items.specs.declared.item.Item.TheVariants as item
 use Rattle.cat_items.specs.declared.ranges.ObjectKind.{ObjectKind}
 use Rattle.cat_items.specs.declared.ranges.ObjectKind.TheVariants as object
 use Rattle.cat_items.specs.declared.ranges.Part.{Part}
-use Rattle.cat_items.specs.declared.ranges.Part.TheVariants.{Objects, User, Role, Schema, Table, View, Columns, Domain, Key, Routine, RoleAuthorizations, RoleGrants, AdminOptions, Held, Grantable}
-use Rattle.cat_items.specs.Keys.{object_of, need_of}
-use Rattle.cat_items.specs.Order.{name_cmp, object_cmp, need_cmp, action_number, kind_of, key_cmp, item_cmp}
+use Rattle.cat_items.specs.declared.ranges.Part.TheVariants.{Objects, User, Role, Schema, Table, View, Columns, Domain, Key, Routine, RoleAuthorizations, RoleGrants, AdminOptions, Held, HeldOn, Grantable}
+use Rattle.cat_items.specs.Keys.{object_of, path_in, need_of}
+use Rattle.cat_items.specs.Order.{name_cmp, object_cmp, need_cmp, target_cmp, action_number, kind_of, key_cmp, item_cmp}
 use Rattle.cat_items.specs.Catalogues.{IsInOrder}
 use Rattle.cat_items.specs.Ranges.{IsRange, IsIn, IsObjectIn, kind_in, number_of, object_place, place_in, schema_in}
 use Rattle.cat_items.proofs.OrderLemmas.{need_cmp-total}
@@ -160,6 +161,34 @@ object_tie kind schema x = (
     named : kind_of x ≡ number_of kind → schema_in x ≡ Some (own_schema x)
     named e = let b = number_bounds kind in has_schema x (omega (arith, e, b.0)) (omega (arith, e, b.1))
 
+-- actions on objects
+
+abbrev target : Action → List (List ℕ) → Need
+target action on = record { action = action; on = on; column = None }
+
+then_equal : (a : Ordering) → ordering_then a Equal ≡ a
+then_equal Less = refl
+then_equal Equal = refl
+then_equal Greater = refl
+
+without_column : (n : Need) (action : Action) (on : List (List ℕ)) → need_cmp (target n.action n.on) (target action on) ≡ target_cmp n action on
+without_column n action on = ap (λ o. ordering_then (nat_cmp (action_number n.action) (action_number action)) o) (then_equal (slice_cmp name_cmp n.on on))
+
+target_tie : (n : Need) (action : Action) (on : List (List ℕ)) → IsTie (target_cmp n action on) ↔ ((n.action ≡ action) × (n.on ≡ on))
+target_tie n action on = (
+  λ h.
+      let both = both_equal (nat_cmp (action_number n.action) (action_number action)) (slice_cmp name_cmp n.on on) (from_tie (target_cmp n action on) h) in
+      (action_number-is n.action action (nat_cmp-IsAntisymmetric _ _ both.0), slice_cmp-IsAntisymmetric name_cmp-IsAntisymmetric n.on on both.1),
+  λ h. subst IsTie (without_column n action on) ((same need_cmp need_cmp-total need_cmp-is (target n.action n.on) (target action on)).1 (λ i. target (h.0 i) (h.1 i))),
+)
+
+split_column : (a p c rest : Ordering) → ordering_then (ordering_then a (ordering_then p c)) rest ≡ ordering_then (ordering_then a (ordering_then p Equal)) (ordering_then c rest)
+split_column Less p c rest = refl
+split_column Equal Less c rest = refl
+split_column Equal Equal c rest = refl
+split_column Equal Greater c rest = refl
+split_column Greater p c rest = refl
+
 is_in : (part : Part) (x : Item) → IsTie (place_in part x) ↔ IsIn part x
 unfolding IsTie
 is_in (Objects kind schema) x = object_tie kind schema.now x
@@ -189,6 +218,8 @@ is_in (AdminOptions role) (item.RoleAdmin g) = same name_cmp nat_list_cmp_total 
 is_in (AdminOptions role) x = (λ h. absurd h, λ h. absurd h)
 is_in (Held need) (item.Held r) = same need_cmp need_cmp-total need_cmp-is r.need (need_of need)
 is_in (Held need) x = (λ h. absurd h, λ h. absurd h)
+is_in (HeldOn action on) (item.Held r) = target_tie r.need action (path_in on)
+is_in (HeldOn action on) x = (λ h. absurd h, λ h. absurd h)
 is_in (Grantable need) (item.Grantable r) = same need_cmp need_cmp-total need_cmp-is r.need (need_of need)
 is_in (Grantable need) x = (λ h. absurd h, λ h. absurd h)
 
@@ -224,6 +255,14 @@ first_part R total a b q rest less = by_order (R a b) refl less
 whole_key : {K : Type 0} (R : K → K → Ordering) → IsTotalOrder R → (a b q : K) → R a b ≡ Less → Rises (R a q) (R b q)
 whole_key R total a b q less = first_part R total a b q Equal (ap (λ o. ordering_then o Equal) less)
 
+-- what comes before in the order of rights doesn't come behind by its action and path
+target_first : (a b : Need) (action : Action) (on : List (List ℕ)) (rest : Ordering) → ordering_then (need_cmp a b) rest ≡ Less → Rises (target_cmp a action on) (target_cmp b action on)
+target_first a b action on rest less =
+    let parts : ordering_then (need_cmp (target a.action a.on) (target b.action b.on)) (ordering_then (option_cmp name_cmp a.column b.column) rest) ≡ Less =
+    sym (split_column (nat_cmp (action_number a.action) (action_number b.action)) (slice_cmp name_cmp a.on b.on) (option_cmp name_cmp a.column b.column) rest) ∙ less in
+    rw (sym (without_column a action on), sym (without_column b action on))
+    (first_part need_cmp need_cmp-total (target a.action a.on) (target b.action b.on) (target action on) _ parts)
+
 -- items of another kind than the part's go by their kinds
 by_kind : (part : Part) (x : Item) → kind_of x ≢ kind_in part → place_in part x ≡ nat_cmp (kind_of x) (kind_in part)
 by_kind (Objects kind schema) x other = there_place (number_of kind) schema.now (kind_of x) (schema_in x) other
@@ -252,6 +291,8 @@ by_kind (AdminOptions role) (item.RoleAdmin g) other = absurd (other refl)
 by_kind (AdminOptions role) x other = refl
 by_kind (Held need) (item.Held r) other = absurd (other refl)
 by_kind (Held need) x other = refl
+by_kind (HeldOn action on) (item.Held r) other = absurd (other refl)
+by_kind (HeldOn action on) x other = refl
 by_kind (Grantable need) (item.Grantable r) other = absurd (other refl)
 by_kind (Grantable need) x other = refl
 
@@ -305,6 +346,9 @@ within_kind (AdminOptions role) x y ex ey less = unlike _ 15 refl refl ex
 within_kind (Held need) (item.Held g) (item.Held h) ex ey less = first_part need_cmp need_cmp-total g.need h.need (need_of need) _ less
 within_kind (Held need) (item.Held g) y ex ey less = unlike _ 16 refl refl ey
 within_kind (Held need) x y ex ey less = unlike _ 16 refl refl ex
+within_kind (HeldOn action on) (item.Held g) (item.Held h) ex ey less = target_first g.need h.need action (path_in on) _ less
+within_kind (HeldOn action on) (item.Held g) y ex ey less = unlike _ 16 refl refl ey
+within_kind (HeldOn action on) x y ex ey less = unlike _ 16 refl refl ex
 within_kind (Grantable need) (item.Grantable g) (item.Grantable h) ex ey less = first_part need_cmp need_cmp-total g.need h.need (need_of need) _ less
 within_kind (Grantable need) (item.Grantable g) y ex ey less = unlike _ 17 refl refl ey
 within_kind (Grantable need) x y ex ey less = unlike _ 17 refl refl ex

@@ -5,7 +5,7 @@ use Rattle.std.specs.declared.cmp.Ordering.TheVariants.{Equal}
 use Rattle.std.specs.Ordering.{nat_cmp, ordering_then}
 use Rattle.std.specs.Cmp.Lexicographic.{slice_cmp}
 use Rattle.std.specs.Option.{option_cmp}
-use Rattle.sql_names.specs.NameBytes.{NameBytes}
+use Rattle.sql_names.specs.NameBytes.{NameBytes, PathNames}
 use Rattle.sql_names.specs.declared.object.Object.{Object}
 use Rattle.sql_tree.specs.declared.rights.Action.{Action}
 use Rattle.sql_tree.specs.declared.rights.Action.TheVariants.{Select, Insert, Update, Delete, References, Usage, Execute, Admin}
@@ -49,6 +49,10 @@ abbrev pub need_cmp : Need → Need → Ordering
 need_cmp a b =
     ordering_then (nat_cmp (action_number a.action) (action_number b.action))
     (ordering_then (slice_cmp name_cmp a.on b.on) (option_cmp name_cmp a.column b.column))
+
+-- by action and place alone
+abbrev pub target_cmp : Need → Action → PathNames → Ordering
+target_cmp need action on = ordering_then (nat_cmp (action_number need.action) (action_number action)) (slice_cmp name_cmp need.on on)
 
 abbrev pub right_cmp : Right → Right → Ordering
 right_cmp a b =

@@ -225,3 +225,14 @@ IsResolved of_subquery = Unit {0}
 
 abbrev pub AreResolved : Pieces → Type 0
 AreResolved pieces = All IsResolved pieces
+
+-- what the grammar gives of each tree: texts, numbers and types are of their form, and lists that have a member have one
+abbrev pub IsFormed : Piece → Type 0
+IsFormed (of_literal text) = IsUtf8 text
+IsFormed (of_number text) = IsNumber text
+IsFormed (of_type sort) = IsType sort
+IsFormed (of_length n) = 0 < n
+IsFormed piece = Unit {0}
+
+abbrev pub AreFormed : Pieces → Type 0
+AreFormed pieces = All IsFormed pieces

@@ -2,17 +2,18 @@
 use Rattle.std.specs.Prelude.{◌≡◌, ◌<◌, ◌≤◌, ℕ, List, Option, Some, None, cond, nat_eq, length, slice_index_or}
 use Rattle.std.specs.Ordering.{nat_cmp}
 use Rattle.std.specs.declared.cmp.Ordering.{Ordering}
-use Rattle.sql_names.specs.NameBytes.{NameBytes}
+use Rattle.sql_names.specs.NameBytes.{NameBytes, PathNames}
+use Rattle.sql_tree.specs.declared.rights.Action.{Action}
 use Rattle.cat_items.specs.declared.need.Need.{Need}
 use Rattle.cat_items.specs.declared.item.Item.{Item}
 use Rattle.cat_items.specs.declared.item.Item.TheVariants as item
 use Rattle.cat_items.specs.declared.ranges.ObjectKind.{ObjectKind}
 use Rattle.cat_items.specs.declared.ranges.ObjectKind.TheVariants as object
 use Rattle.cat_items.specs.declared.ranges.Part.{Part}
-use Rattle.cat_items.specs.declared.ranges.Part.TheVariants.{Objects, User, Role, Schema, Table, View, Columns, Domain, Key, Routine, RoleAuthorizations, RoleGrants, AdminOptions, Held, Grantable}
+use Rattle.cat_items.specs.declared.ranges.Part.TheVariants.{Objects, User, Role, Schema, Table, View, Columns, Domain, Key, Routine, RoleAuthorizations, RoleGrants, AdminOptions, Held, HeldOn, Grantable}
 use Rattle.sql_names.specs.declared.object.Object.{Object}
-use Rattle.cat_items.specs.Keys.{object_of, need_of}
-use Rattle.cat_items.specs.Order.{name_cmp, object_cmp, need_cmp, kind_of}
+use Rattle.cat_items.specs.Keys.{object_of, path_in, need_of}
+use Rattle.cat_items.specs.Order.{name_cmp, object_cmp, need_cmp, target_cmp, kind_of}
 use Rattle.cat_items.specs.Rights.{IsRole, IsSchema, IsBaseTable}
 use Rattle.cat_items.specs.Shape.{IsColumnOf}
 use Rattle.cat_items.specs.Supported.{IsKey}
@@ -92,6 +93,11 @@ abbrev pub IsHeldOf : Need → Item → Type 0
 IsHeldOf need (item.Held r) = r.need ≡ need
 IsHeldOf need x = ⊥
 
+-- a privilege of this action on this object, or on a column of it
+abbrev pub IsHeldOn : Action → PathNames → Item → Type 0
+IsHeldOn action on (item.Held r) = (r.need.action ≡ action) × (r.need.on ≡ on)
+IsHeldOn action on x = ⊥
+
 -- a grant option of this need
 abbrev pub IsGrantableOf : Need → Item → Type 0
 IsGrantableOf need (item.Grantable r) = r.need ≡ need
@@ -112,6 +118,7 @@ IsIn RoleAuthorizations x = IsRoleAuthorization x
 IsIn (RoleGrants role) x = IsGrantOf role.now x
 IsIn (AdminOptions role) x = IsAdminOptionOf role.now x
 IsIn (Held need) x = IsHeldOf (need_of need) x
+IsIn (HeldOn action on) x = IsHeldOn action (path_in on) x
 IsIn (Grantable need) x = IsGrantableOf (need_of need) x
 
 -- the kind of the items of a part
@@ -130,6 +137,7 @@ kind_in RoleAuthorizations = 14
 kind_in (RoleGrants role) = 14
 kind_in (AdminOptions role) = 15
 kind_in (Held need) = 16
+kind_in (HeldOn action on) = 16
 kind_in (Grantable need) = 17
 
 abbrev pub object_place : ℕ → NameBytes → ℕ → Option NameBytes → Ordering
@@ -151,5 +159,6 @@ place_in (Routine key) (item.Routine r) = object_cmp r.routine (object_of key)
 place_in (RoleGrants role) (item.RoleAuth g) = name_cmp g.role role.now
 place_in (AdminOptions role) (item.RoleAdmin g) = name_cmp g.role role.now
 place_in (Held need) (item.Held r) = need_cmp r.need (need_of need)
+place_in (HeldOn action on) (item.Held r) = target_cmp r.need action (path_in on)
 place_in (Grantable need) (item.Grantable r) = need_cmp r.need (need_of need)
 place_in part x = nat_cmp (kind_of x) (kind_in part)

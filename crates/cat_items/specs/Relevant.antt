@@ -17,7 +17,7 @@ use Rattle.cat_items.specs.declared.item.Right.{Right}
 use Rattle.cat_items.specs.declared.item.Item.{Item}
 use Rattle.cat_items.specs.declared.item.Item.TheVariants as item
 use Rattle.cat_items.specs.Reach.{Has, Reaches}
-use Rattle.cat_items.specs.Rights.{path_of, IsAuthorization, IsRole, IsSchema, IsBaseTable, IsTable, IsDomain, IsObject, usage, reference}
+use Rattle.cat_items.specs.Rights.{path_of, IsAuthorization, IsRole, IsSchema, IsBaseTable, IsTable, IsDomain, IsObject, usage, execute, reference}
 use Rattle.cat_items.specs.Supported.{IsKey, IsRoleAuth, IsHeld}
 use Rattle.cat_items.specs.SystemRights.{security_of}
 use Rattle.cat_items.specs.Shape.{IsColumnOf}
@@ -99,7 +99,7 @@ IsRoutineNeed r Invoker need = ⊥
 -- the object of a right by the system, and a need that this right goes by
 abbrev pub IsObjectNeed : List Item → Right → Need → Item → Type 0
 IsObjectNeed u r need (item.View v) = (r.need.on ≡ path_of v.view) × IsViewNeed u v r.need.action r.need.column need
-IsObjectNeed u r need (item.Routine x) = (r.need.on ≡ path_of x.routine) × IsRoutineNeed x (security_of x.body) need
+IsObjectNeed u r need (item.Routine x) = (r.need ≡ execute x.routine) × IsRoutineNeed x (security_of x.body) need
 IsObjectNeed u r need x = ⊥
 
 abbrev pub IsRightNeed : List Item → Right → Auth → Need → Type 0

@@ -99,6 +99,10 @@ MeetsAll grantable s schema needs x = ⊥
 abbrev pub usage : Object → Need
 usage d = record { action = Usage; on = path_of d; column = None }
 
+-- EXECUTE on a routine
+abbrev pub execute : Object → Need
+execute r = record { action = Execute; on = path_of r; column = None }
+
 -- REFERENCES on a column
 abbrev pub reference : Object → NameBytes → Need
 reference t column = record { action = References; on = path_of t; column = Some column }

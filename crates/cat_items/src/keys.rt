@@ -4,7 +4,7 @@ ghost use Rattle.std.specs.Prelude.{◌≡◌};
 ghost use Rattle.std.specs.Option.{option_cmp, option_copied};
 ghost use Rattle.std.specs.Cmp.Lexicographic.{slice_cmp};
 ghost use Rattle.cat_items.specs.Keys.{object_of, path_in, need_of};
-ghost use Rattle.cat_items.specs.Order.{name_cmp, object_cmp, need_cmp};
+ghost use Rattle.cat_items.specs.Order.{name_cmp, object_cmp, need_cmp, target_cmp};
 ghost use Rattle.cat_items.specs.Rights.{path_of};
 
 use crate::need::Need;
@@ -98,6 +98,15 @@ fn compare_column(x: &Option<Name>, key: Option<&Name>) -> Ordering
         (Some(_), None) => Ordering::Greater,
         (Some(name), Some(other)) => name.cmp(other),
     }
+}
+
+/// Compares the action and the path of a need with others.
+pub fn compare_target(x: &Need, action: Action, on: PathKey<'_>) -> Ordering
+    ensures { result ≡ target_cmp x.now action (path_in on.entry) }
+{
+    let on = compare_path(&x.on, on);
+    let action = x.action.cmp(&action);
+    action.then(on)
 }
 
 /// Compares a need with another.

@@ -8,9 +8,9 @@ ghost use Rattle.cat_items.specs.Shape.{IsColumnOf};
 
 use crate::catalogue::Catalogue;
 use crate::item::Item;
-use crate::keys::{NeedKey, ObjectKey, compare_need, compare_object};
+use crate::keys::{NeedKey, ObjectKey, PathKey, compare_need, compare_object, compare_target};
 use crate::need::Need;
-use sql_tree::{Name, Object};
+use sql_tree::{Action, Name, Object};
 use std::cmp::Ordering;
 use std::ops::Range;
 
@@ -53,6 +53,8 @@ pub enum Part<'a> {
     AdminOptions(&'a Name),
     /// The privileges of exactly this need.
     Held(NeedKey<'a>),
+    /// The privileges of an action on an object and on its columns.
+    HeldOn(Action, PathKey<'a>),
     /// The grant options of exactly this need.
     Grantable(NeedKey<'a>),
 }
@@ -136,7 +138,7 @@ fn kind_of_part(part: Part<'_>) -> u8
         Part::Routine(_) => 13,
         Part::RoleAuthorizations | Part::RoleGrants(_) => 14,
         Part::AdminOptions(_) => 15,
-        Part::Held(_) => 16,
+        Part::Held(_) | Part::HeldOn(_, _) => 16,
         Part::Grantable(_) => 17,
     }
 }
@@ -169,6 +171,11 @@ fn place(part: Part<'_>, x: &Item) -> Ordering
         (Part::RoleGrants(role), Item::RoleAuth(grant)) => grant.get().role.cmp(role),
         (Part::AdminOptions(role), Item::RoleAdmin(grant)) => grant.get().role.cmp(role),
         (Part::Held(need), Item::Held(right)) => compare_need(&right.get().need, need),
+        (Part::HeldOn(action, on), Item::Held(right)) => compare_target(
+            &right.get().need,
+            action,
+            on,
+        ),
         (Part::Grantable(need), Item::Grantable(right)) => compare_need(&right.get().need, need),
         _ => kind(x).cmp(&kind_of_part(part)),
     }

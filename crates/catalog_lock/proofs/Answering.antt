@@ -34,7 +34,7 @@ module _ {M G : Type 0} (history : M → List Event) where
       subst (λ z. MatchBool z (m4.0 ≡ without_turn (with_call (with_turn v log) (history x))) (m4.0 ≡ without_turn (with_turn v log))) is
       (final_view kept v log known x m1 m2 m3 m4 l2 c1 c2 c3 c4 same)
 
-module _ {G R : Type 0} (step : G → List Event → ℕ → List ℕ → R) (may_give : G → List Event → ℕ → List ℕ → R → Type 0) where
+module _ {G R : Type 0} (step : G → List Event → ℕ → List ℕ → R → Type 0) (may_give : G → List Event → ℕ → List ℕ → R → Type 0) where
   -- the pass goes on from what it had seen
   pub seen_begins : (b : Bool) (p q : Shown G) (text : List ℕ) (answer : R) → MatchBool b (MakesCall step p text answer q) (MakesNoCall may_give p text answer q) → IsPrefix p.seen q.seen
   seen_begins true p q text answer made_call =
@@ -43,11 +43,11 @@ module _ {G R : Type 0} (step : G → List Event → ℕ → List ℕ → R) (ma
   seen_begins false p q text answer made_none = subst (λ (z : Shown G). IsPrefix p.seen z.seen) (sym made_none.3) made_none.1
 
 module _ {M G R : Type 0} (history : M → List Event) where
-  module _ (made : M → G) (step : G → List Event → ℕ → List ℕ → R) (may_give : G → List Event → ℕ → List ℕ → R → Type 0) where
+  module _ (made : M → G) (step : G → List Event → ℕ → List ℕ → R → Type 0) (may_give : G → List Event → ℕ → List ℕ → R → Type 0) where
     -- what the machine did, at these
     abbrev Acted : Bool → M → List ℕ → R → G × List Event × ℕ → Type 0
     Acted b x text answer z = MatchBool b
-        ((history x ≡ z.1 ++ event z.2 text ∷ []) × (answer ≡ step z.0 z.1 z.2 text))
+        ((history x ≡ z.1 ++ event z.2 text ∷ []) × step z.0 z.1 z.2 text answer)
         ((history x ≡ z.1) × may_give z.0 z.1 z.2 text answer)
 
     told : (b : Bool) (table : TableId) (v w : View G) (text : List ℕ) (answer : R) (log : List Event) (x : M)
@@ -80,7 +80,7 @@ module _ {M G R : Type 0} (history : M → List Event) where
           → MatchBool b (w ≡ without_turn (with_call (with_turn v log) (history x))) (w ≡ without_turn (with_turn v log))
           → IsLegal takes step keeps w.made w.seen
       still true v w text answer log x is takes_it legal acted view = subst (λ (z : View G). IsLegal takes step keeps z.made z.seen) (sym view)
-          (subst (IsLegal takes step keeps v.made) (sym acted.0) (legal-push takes step keeps v.made log v.number text legal takes_it (ap keeps (sym acted.1) ∙ is)))
+          (subst (IsLegal takes step keeps v.made) (sym acted.0) (legal-push takes step keeps v.made log v.number text legal (takes_it, (answer, acted.1, is))))
       still false v w text answer log x is takes_it legal acted view = subst (λ (z : View G). IsLegal takes step keeps z.made z.seen) (sym view) legal
 
       pub still_legal : (b : Bool) (v w : View G) (n : ℕ) (text : List ℕ) (answer : R) (log : List Event) (m x : M)

@@ -12,7 +12,7 @@ use Rattle.catalog_lock.specs.Turns.{Kept, IsIdle}
 use Rattle.catalog_lock.specs.Passes.{Shown, shown, IsJoined, AreAllJoined}
 use Rattle.catalog_lock.proofs.Steps.{closes}
 
-module _ {M G R : Type 0} (history : M → List Event) (made : M → G) (takes : G → List ℕ → Type 0) (step : G → List Event → ℕ → List ℕ → R) (keeps : R → Bool) where
+module _ {M G R : Type 0} (history : M → List Event) (made : M → G) (takes : G → List ℕ → Type 0) (step : G → List Event → ℕ → List ℕ → R → Type 0) (keeps : R → Bool) where
   -- all that `close` says
   abbrev Ends : Shown G → M → Type 0
   Ends p m =

@@ -4,7 +4,7 @@ use Rattle.std.proofs.lemmas.List.{append-nil}
 use Rattle.std.proofs.lemmas.List.Elements.{filter-append, All-nil, All-cons}
 use mathlib.Core.List.{IsPrefix}
 use Rattle.catalog_lock.specs.declared.history.Event.{Event}
-use Rattle.catalog_lock.specs.History.{event, calls_by, IsLegal}
+use Rattle.catalog_lock.specs.History.{event, calls_by, MayFollow, IsLegal}
 
 pub prefix_self : {A : Type 0} (xs : List A) → IsPrefix xs xs
 prefix_self xs = ([], append-nil xs)
@@ -66,7 +66,7 @@ cuts [] (b ∷ c ∷ bs) after e x h = absurd (cc h)
 cuts (l ∷ ls) [] after e x h = inr (ls, cc h)
 cuts (l ∷ ls) (b ∷ bs) after e x h = ⊎_elim (λ t. inl (cc (h, t.0), t.1)) (λ t. inr (t.0, cc (h, t.1))) (cuts ls bs after e x (cc h))
 
-module _ {G R : Type 0} (takes : G → List ℕ → Type 0) (step : G → List Event → ℕ → List ℕ → R) (keeps : R → Bool) (made : G) where
+module _ {G R : Type 0} (takes : G → List ℕ → Type 0) (step : G → List Event → ℕ → List ℕ → R → Type 0) (keeps : R → Bool) (made : G) where
   pub legal-nil : IsLegal takes step keeps made []
   legal-nil [] e after h = absurd (cc h)
   legal-nil (b ∷ bs) e after h = absurd (cc h)
@@ -74,8 +74,8 @@ module _ {G R : Type 0} (takes : G → List ℕ → Type 0) (step : G → List E
   pub legal-prefix : (seen log : List Event) → IsPrefix seen log → IsLegal takes step keeps made log → IsLegal takes step keeps made seen
   legal-prefix seen log p legal before e after h = legal before e (after ++ p.0) (sym p.1 ∙ (ap (λ l. l ++ p.0) h ∙ append_assoc before (e ∷ after) p.0))
 
-  pub legal-push : (log : List Event) (n : ℕ) (t : List ℕ) → IsLegal takes step keeps made log → takes made t → keeps (step made log n t) ≡ true → IsLegal takes step keeps made (log ++ event n t ∷ [])
-  legal-push log n t legal takes_it kept before e after h = ⊎_elim
-      (λ c. subst (λ (z : List Event × Event). takes made z.1.text × (keeps (step made z.0 z.1.session z.1.text) ≡ true)) (λ i. (sym c.0 i, sym c.1 i)) (takes_it, kept))
+  pub legal-push : (log : List Event) (n : ℕ) (t : List ℕ) → IsLegal takes step keeps made log → MayFollow takes step keeps made log n t → IsLegal takes step keeps made (log ++ event n t ∷ [])
+  legal-push log n t legal may before e after h = ⊎_elim
+      (λ c. subst (λ (z : List Event × Event). MayFollow takes step keeps made z.0 z.1.session z.1.text) (λ i. (sym c.0 i, sym c.1 i)) may)
       (λ c. legal before e c.0 c.1)
       (cuts log before after (event n t) e h)

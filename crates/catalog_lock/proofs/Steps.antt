@@ -14,7 +14,7 @@ use Rattle.atomic_table.proofs.Lists.{at_set, set_again, set_here, set_else, at_
 use Rattle.catalog_lock.specs.declared.history.Event.{Event}
 use Rattle.catalog_lock.specs.declared.history.Ended.{Ended}
 use Rattle.catalog_lock.specs.declared.history.View.{View}
-use Rattle.catalog_lock.specs.History.{event, calls_by, IsLegal}
+use Rattle.catalog_lock.specs.History.{event, calls_by, MayFollow, IsLegal}
 use Rattle.catalog_lock.specs.Passes.{IsJoined, AreAllJoined}
 use Rattle.catalog_lock.specs.Turns.{newcomer, with_turn, with_call, without_turn, Seats, HasEnded, Fits, Kept, Tries, Appends, Releases, Knows, Looks, SpeaksFor, IsSpokenFor, with_next, view_split_off, joined_with, used_up}
 use Rattle.catalog_lock.proofs.Joining.{joined_left, joined_right, joined_first, joined_rest}
@@ -91,7 +91,7 @@ pick : (P : List Event → Type 0) (xs ys : List Event) → P xs → P ys → (b
 pick P xs ys p q true = q
 pick P xs ys p q false = p
 
-module _ {M G R : Type 0} (history : M → List Event) (made : M → G) (takes_it : G → List ℕ → Type 0) (reply : G → List Event → ℕ → List ℕ → R) (kept : R → Bool) where
+module _ {M G R : Type 0} (history : M → List Event) (made : M → G) (takes_it : G → List ℕ → Type 0) (reply : G → List Event → ℕ → List ℕ → R → Type 0) (kept : R → Bool) where
   abbrev St : Type 0
   St = State (Option M) (View G)
 
@@ -173,9 +173,9 @@ module _ {M G R : Type 0} (history : M → List Event) (made : M → G) (takes_i
   one_hand x y e = let same : Some x ≡ Some y = ap (λ (l : List (ℕ × Option M)). (get_or l 0 (0, Some x)).1) e in cc same
 
   pub appends : (origin : G) (slots id : ℕ) (me : Seat) (x : M) (text : List ℕ) → me.0.spent ≡ false → me.0.holds ≡ true → me.1 ≡ (0, Some x) ∷ []
-      → history x ≡ me.0.seen ++ event me.0.number text ∷ [] → takes_it me.0.made text → kept (reply me.0.made me.0.seen me.0.number text) ≡ true → length (history x) ≤ 2 ^ 63
+      → history x ≡ me.0.seen ++ event me.0.number text ∷ [] → MayFollow takes_it reply kept me.0.made me.0.seen me.0.number text → length (history x) ≤ 2 ^ 63
       → Allows (Rule origin) slots id me 0 (λ n. (n + 1) % 2 ^ 64) (Appends history made takes_it reply kept (step slots 0 1 0 none) me)
-  appends origin slots id me x text live holds hand grown takes_text is_kept room s r _ at _ =
+  appends origin slots id me x text live holds hand grown may room s r _ at _ =
       let f = r.each id me.0 at live in
       let h = f.has_turn holds in
       let n : ℕ = me.0.number in
@@ -190,8 +190,8 @@ module _ {M G R : Type 0} (history : M → List Event) (made : M → G) (takes_i
         tt,
         moved origin s r id me.0 w at live (history x) r.turn r.holder (set s.words 0 ((get_or s.words 0 0 + 1) % 2 ^ 64)) s.homes (λ _ x. x) grows same
             (ap (λ (ws : List ℕ). set ws 0 ((get_or ws 0 0 + 1) % 2 ^ 64)) r.words ∙ ap (λ (c : ℕ). c ∷ r.turn ∷ []) count)
-            (subst (Legal origin) (sym log') (legal-push takes_it reply kept origin r.log n text r.legal (subst (λ g. takes_it g text) f.made takes_text)
-            (subst (λ (z : G × List Event). kept (reply z.0 z.1 n text) ≡ true) (λ i. (f.made i, h.2 i)) is_kept)))
+            (subst (Legal origin) (sym log') (legal-push takes_it reply kept origin r.log n text r.legal
+            (subst (λ (z : G × List Event). MayFollow takes_it reply kept z.0 z.1 n text) (λ i. (f.made i, h.2 i)) may)))
             (λ _. record {
               made = f.made;
               seen = prefix_self (history x);
@@ -473,7 +473,7 @@ module _ {M G R : Type 0} (history : M → List Event) (made : M → G) (takes_i
 pub slot_first : {S : Type 0} (l others : List (ℕ × S)) (a : ℕ × S) → l ≡ a ∷ others → l ≡ a ∷ rest l
 slot_first {S = S} l others a e = e ∙ ap (λ (c : List (ℕ × S)). a ∷ c) (sym (ap rest e))
 
-pub opens_at : {M G R : Type 0} (history : M → List Event) (made : M → G) (takes_it : G → List ℕ → Type 0) (reply : G → List Event → ℕ → List ℕ → R) (kept : R → Bool) (origin : G) (m : M) (slots : List (Option M))
+pub opens_at : {M G R : Type 0} (history : M → List Event) (made : M → G) (takes_it : G → List ℕ → Type 0) (reply : G → List Event → ℕ → List ℕ → R → Type 0) (kept : R → Bool) (origin : G) (m : M) (slots : List (Option M))
     → slots ≡ Some m ∷ [] → history m ≡ [] → made m ≡ origin → Kept history made takes_it reply kept origin (opening (0 ∷ 0 ∷ []) slots (newcomer origin))
 opens_at {M = M} history made takes_it reply kept origin m slots e new from =
     subst (λ (l : List (Option M)). Kept history made takes_it reply kept origin (opening (0 ∷ 0 ∷ []) l (newcomer origin))) (sym e) (opens history made takes_it reply kept origin m new from)

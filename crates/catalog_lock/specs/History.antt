@@ -9,8 +9,11 @@ event session text = record { session = session; text = text }
 abbrev pub calls_by : ℕ → List Event → List Event
 calls_by number log = filter (λ e. e.session == number) log
 
-module _ {G R : Type 0} (takes : G → List ℕ → Type 0) (step : G → List Event → ℕ → List ℕ → R) (keeps : R → Bool) where
-  -- each text is one that the machine takes, and the reply of the step to it, at its place, is kept
+module _ {G R : Type 0} (takes : G → List ℕ → Type 0) (step : G → List Event → ℕ → List ℕ → R → Type 0) (keeps : R → Bool) where
+  -- the machine takes the text, and has a reply to it, after this history, that is kept
+  abbrev pub MayFollow : G → List Event → ℕ → List ℕ → Type 0
+  MayFollow made before session text = takes made text × ((reply : R) × step made before session text reply × (keeps reply ≡ true))
+
+  -- each event may follow those before it
   abbrev pub IsLegal : G → List Event → Type 0
-  IsLegal made log = (before : List Event) (e : Event) (after : List Event) → log ≡ before ++ e ∷ after
-      → takes made e.text × (keeps (step made before e.session e.text) ≡ true)
+  IsLegal made log = (before : List Event) (e : Event) (after : List Event) → log ≡ before ++ e ∷ after → MayFollow made before e.session e.text

@@ -24,11 +24,11 @@ shown table v = record { table = table; made = v.made; number = v.number; seen =
 abbrev pub first_pass : {G : Type 0} → TableId → G → Shown G
 first_pass table made = record { table = table; made = made; number = 0; seen = []; mine = []; joined = []; next = 1 }
 
-module _ {G R : Type 0} (step : G → List Event → ℕ → List ℕ → R) where
-  -- the pass has seen a history that begins with all that it had seen and ends with this call, whose answer is the step's at that place; and the call is one more of its own
+module _ {G R : Type 0} (step : G → List Event → ℕ → List ℕ → R → Type 0) where
+  -- the pass has seen a history that begins with all that it had seen and ends with this call, whose answer is one of the step at that place; and the call is one more of its own
   abbrev pub MakesCall : Shown G → List ℕ → R → Shown G → Type 0
   MakesCall p text answer q =
-      (before : List Event) × IsPrefix p.seen before × (answer ≡ step p.made before p.number text)
+      (before : List Event) × IsPrefix p.seen before × step p.made before p.number text answer
       × (q ≡ record p { seen = before ++ event p.number text ∷ []; mine = p.mine ++ event p.number text ∷ [] })
 
 module _ {G R : Type 0} (may_give : G → List Event → ℕ → List ℕ → R → Type 0) where

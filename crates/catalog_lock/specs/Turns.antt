@@ -70,7 +70,7 @@ SpeaksFor number v = (v.spent ≡ false) × ((v.number ≡ number) ⊎ IsJoined 
 abbrev pub IsSpokenFor : {G : Type 0} → ℕ → List (View G) → Type 0
 IsSpokenFor {G} number views = (j : ℕ) × (v : View G) × (get_elem? views j ≡ some v) × SpeaksFor number v
 
-module _ {M G R : Type 0} (history : M → List Event) (made : M → G) (takes : G → List ℕ → Type 0) (step : G → List Event → ℕ → List ℕ → R) (keeps : R → Bool) where
+module _ {M G R : Type 0} (history : M → List Event) (made : M → G) (takes : G → List ℕ → Type 0) (step : G → List Event → ℕ → List ℕ → R → Type 0) (keeps : R → Bool) where
   -- What holds between any two steps. There is one history
   pub record Kept (origin : G) (s : State (Option M) (View G)) : Type 0 where
     pub log : List Event

@@ -24,8 +24,8 @@ pub trait Machine {
     /// The texts that a machine takes.
     ghost takes: { Self.Made → List ℕ → Type 0 };
 
-    /// The reply of the sequential object to a session's text after a history.
-    ghost step: { Self.Made → List Event → ℕ → List ℕ → Self.Reply };
+    /// The replies of the sequential object to a session's text after a history.
+    ghost step: { Self.Made → List Event → ℕ → List ℕ → Self.Reply → Type 0 };
 
     /// The replies that make an event.
     ghost keeps: { Self.Reply → Bool };
@@ -40,7 +40,7 @@ pub trait Machine {
     fn act(&mut self, session: u32, text: &[u8]) -> Self::Reply
         requires takes { takes (made self.old) text.now }
         ensures event { MatchBool (keeps result)
-            ((history self.new ≡ history self.old ++ event session text.now ∷ []) × (result ≡ step (made self.old) (history self.old) session text.now))
+            ((history self.new ≡ history self.old ++ event session text.now ∷ []) × step (made self.old) (history self.old) session text.now result)
             ((history self.new ≡ history self.old) × may_give (made self.old) (history self.old) session text.now result) }
         ensures made { made self.new ≡ made self.old }
         ensures room { length (history self.new) ≤ 2 ^ 63 };

@@ -1,6 +1,6 @@
 //! The steps of a call, each on the seat of its pass.
 ghost use Rattle.std.specs.Prelude.{◌≡◌, ◌≤◌, ◌^◌, ◌++◌, ◌∷◌, [], true, length, Some, None, IfSome, IfNone, MatchBool};
-ghost use Rattle.catalog_lock.specs.History.{event};
+ghost use Rattle.catalog_lock.specs.History.{event, MayFollow};
 ghost use Rattle.catalog_lock.specs.Turns.{Took, Holding, IsIdle, with_call, without_turn};
 
 use crate::history::View;
@@ -105,8 +105,7 @@ impl<M: Machine> Shared<M> {
         requires table { seat.old.table_id ≡ self.now }
         requires held { Holding seat.old.me _machine.now.value }
         requires grown { kept ≡ true → (M.history _machine.now.value ≡ seat.old.me.0.seen ++ event seat.old.me.0.number _text.now ∷ [])
-            × M.takes seat.old.me.0.made _text.now
-            × (M.keeps (M.step seat.old.me.0.made seat.old.me.0.seen seat.old.me.0.number _text.now) ≡ true)
+            × MayFollow M.takes M.step M.keeps seat.old.me.0.made seat.old.me.0.seen seat.old.me.0.number _text.now
             × (length (M.history _machine.now.value) ≤ 2 ^ 63) }
         ensures table { (seat.new.table_id ≡ seat.old.table_id) × (seat.new.id ≡ seat.old.id) }
         ensures view { MatchBool kept (seat.new.me ≡ (with_call seat.old.me.0 (M.history _machine.now.value), seat.old.me.1)) (seat.new.me ≡ seat.old.me) }

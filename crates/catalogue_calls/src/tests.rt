@@ -3,7 +3,7 @@
 ghost use Rattle.std.specs.Prelude.{◌≡◌, IfOk};
 ghost use Rattle.cat_items.specs.Good.{IsGood};
 ghost use Rattle.catalogue_edits.specs.Statements.{IsBuiltEdit};
-ghost use Rattle.define_edit.specs.Creations.{HasForms};
+ghost use Rattle.statement_forms.specs.Written.{IsWritten};
 
 use crate::cases::{CYCLE, EDITS, GRANTED, RESTING, ROLES};
 use cat_engine::{Book, Reply};
@@ -44,7 +44,7 @@ fn book(alloc: Global) -> Result<Book, Fail> {
 
 /// The statement that a text is.
 fn read(alloc: Global, text: &[u8]) -> Result<Statement, Fail>
-    ensures forms { IfOk result HasForms }
+    ensures written { IfOk result IsWritten }
 {
     let words = match words(alloc, text) {
         Ok(words) => words,
@@ -64,7 +64,7 @@ fn edit_of(
 ) -> Result<Edit, EditError>
     requires good { IsGood c.now.items }
     requires built { IsBuiltEdit statement.now }
-    requires forms { HasForms statement.now }
+    requires written { IsWritten statement.now }
 {
     match statement {
         Statement::CreateSchema(_) => edit_create(alloc, c, who, statement),

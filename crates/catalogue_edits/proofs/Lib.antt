@@ -1,4 +1,5 @@
 pub mod Openings
 pub mod Outcomes
-pub mod Settled
 pub mod Plans
+pub mod Settled
+pub mod SoundEdits

@@ -20,10 +20,10 @@ use Rattle.edit_laws.specs.Sound.{IsSound}
 use Rattle.edit_rules.proofs.FirstLaws.{passes_none, passes_more}
 use Rattle.catalogue_edits.specs.declared.warning.Warning.{Warning}
 use Rattle.catalogue_edits.specs.Limits.{too_many_items, too_many_columns}
-use Rattle.catalogue_edits.specs.Restrict.{restricted, still_needed}
+use Rattle.catalogue_edits.specs.Kinds.{kind_of}
+use Rattle.catalogue_edits.specs.Restrict.{still_needed}
 use Rattle.catalogue_edits.specs.Revisions.{for_edit, outcome_refusals, revision_refusals, IsRevised}
 use Rattle.catalogue_edits.specs.Statements.{edit_refusals, IsEditOf}
-use Rattle.catalogue_edits.specs.Warnings.{IsWarning}
 use Rattle.catalogue_edits.proofs.Settled.{edit_settled}
 
 -- ---- RESTRICT
@@ -72,7 +72,7 @@ for_passes c who s edit test is passes r h = passes r (subst (λ e. test e r) (e
 
 -- what comes of it is refused
 pub outcome_exit : {T : Type 0} (limits : Limits) (c : List Item) (who : Who) (s : Statement) (edit : Edit) (restrict : Option Bool) (Done : T → Type 0) (AllDone : Option Warning → Type 0) (same : Type 0)
-    (e : EditError) (exit : Result (Option Warning) EditError) → same → IsErrAnd exit (λ error. error ≡ e) → restrict ≡ restricted s → Passes (First (edit_refusals c who s)) → IsEditOf c who s edit
+    (e : EditError) (exit : Result (Option Warning) EditError) → same → IsErrAnd exit (λ error. error ≡ e) → restrict ≡ (kind_of s).restricts → Passes (First (edit_refusals c who s)) → IsEditOf c who s edit
     → IsTested (outcome_refusals limits c restrict edit) Done (Err e) → Tested (revision_refusals limits c who s) AllDone same exit
 outcome_exit limits c who s edit restrict Done AllDone same e (Ok warning) here is by passes of h = absurd is
 outcome_exit limits c who s edit restrict Done AllDone same (Refused q) (Err (Refused r)) here is by passes of h =
@@ -83,12 +83,12 @@ outcome_exit limits c who s edit restrict Done AllDone same e (Err Memory) here 
 
 -- it is done
 pub revised : (limits : Limits) (c : List Item) (who : Who) (s : Statement) (edit : Edit) (restrict : Option Bool) (warning : Option Warning) (new : List Item)
-    → restrict ≡ restricted s → Passes (First (edit_refusals c who s)) → IsEditOf c who s edit → IsWarning c who s edit warning
+    → restrict ≡ (kind_of s).restricts → Passes (First (edit_refusals c who s)) → IsEditOf c who s edit → (kind_of s).warns c who edit warning
     → Passes (First (outcome_refusals limits c restrict edit)) → IsNew c edit new
     → Passes (First (revision_refusals limits c who s)) × IsRevised c who s warning new
 revised limits c who s edit restrict warning new is passes of warns within made = (
-  passes_more (First (edit_refusals c who s)) (for_edit c who s (λ e. First (outcome_refusals limits c (restricted s) e)) ∷ []) passes
-      (passes_more (for_edit c who s (λ e. First (outcome_refusals limits c (restricted s) e))) []
-      (for_passes c who s edit (λ e. First (outcome_refusals limits c (restricted s) e)) of (subst (λ o. Passes (First (outcome_refusals limits c o edit))) is within)) passes_none),
+  passes_more (First (edit_refusals c who s)) (for_edit c who s (λ e. First (outcome_refusals limits c ((kind_of s).restricts) e)) ∷ []) passes
+      (passes_more (for_edit c who s (λ e. First (outcome_refusals limits c ((kind_of s).restricts) e))) []
+      (for_passes c who s edit (λ e. First (outcome_refusals limits c ((kind_of s).restricts) e)) of (subst (λ o. Passes (First (outcome_refusals limits c o edit))) is within)) passes_none),
   record { edit = edit; is_edit = of; is_new = made; warns = warns },
 )

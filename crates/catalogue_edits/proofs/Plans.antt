@@ -1,40 +1,62 @@
--- The edit of a plan is that of its statement.
-use Rattle.std.proofs.Common.{◌≡◌, ℕ, List, sym, subst}
-use Rattle.sql_tree.specs.declared.statement.CreateTable.{CreateTable as Table}
-use Rattle.sql_tree.specs.declared.statement.GrantPrivileges.{GrantPrivileges as Grant}
-use Rattle.sql_tree.specs.declared.statement.RevokePrivileges.{RevokePrivileges as Revoke}
+-- The plan of a statement is what the table of kinds says.
+use Rattle.std.proofs.Common.{◌≡◌, ◌∙◌, List, None, Option, Some, Bool, false, ap, sym, subst}
+use Rattle.sql_names.specs.declared.column.ObjectName.{ObjectName}
+use Rattle.sql_tree.specs.declared.statement.Behaviour.{Behaviour}
+use Rattle.sql_tree.specs.declared.statement.DropKind.{DropKind}
+use Rattle.sql_tree.specs.declared.statement.DropKind.TheVariants as drops
 use Rattle.sql_tree.specs.declared.statement.Statement.{Statement}
-use Rattle.sql_tree.specs.declared.statement.Statement.TheVariants.{CreateTable, DropRole, GrantPrivileges, RevokePrivileges}
 use Rattle.cat_items.specs.declared.edit.Edit.{Edit}
 use Rattle.cat_items.specs.declared.edit.Who.{Who}
 use Rattle.cat_items.specs.declared.item.Item.{Item}
-use Rattle.define_edit.specs.Creations.{IsCreation, creation_refusals}
-use Rattle.drop_edit.specs.Drops.{drop_refusals, IsDrop}
 use Rattle.edit_rules.specs.First.{First, Passes}
-use Rattle.grant_edit.specs.declared.grants.Granting.{Granting}
-use Rattle.grant_edit.specs.Statements.{grant_refusals, IsGranting, IsRevocation, revoke_refusals}
-use Rattle.catalogue_edits.specs.Statements.{edit_refusals, IsEditOf}
+use Rattle.edit_rules.specs.Names.{object_in}
+use Rattle.drop_edit.specs.DroppedTables.{IsTableDrop, drop_table_refusals}
+use Rattle.catalogue_edits.specs.declared.plan.Plan.{Plan}
+use Rattle.catalogue_edits.specs.Kinds.{Kind, drop_kind, kind_of, where_restrict}
+use Rattle.catalogue_edits.specs.Statements.{IsPlanned}
+use Rattle.catalogue_edits.specs.Warnings.{WarnsWhere}
+use Rattle.catalogue_edits.specs.declared.warning.Warning.{Warning}
 
-abbrev pub Makes : List Item → Who → Statement → Edit → Type 0
-Makes c who s edit = Passes (First (edit_refusals c who s)) × IsEditOf c who s edit
+-- all tests of the kind pass, and the plan is what it says
+abbrev pub IsPlannedBy : Kind → List Item → Who → Plan → Type 0
+IsPlannedBy kind c who plan = Passes (First (kind.refusals c who)) × IsPlanned kind c who plan
 
-pub creates : (c : List Item) (who : Who) (s : Statement) (parts : Table) (edit planned : Edit) → s ≡ CreateTable parts → planned ≡ edit → Passes (First (creation_refusals c who s)) × IsCreation c who s edit → Makes c who s planned
-creates c who s parts edit planned is made h =
-    let here : Passes (First (creation_refusals c who (CreateTable parts))) × IsCreation c who (CreateTable parts) edit = subst (λ t. Passes (First (creation_refusals c who t)) × IsCreation c who t edit) is h in
-    subst (λ t. Makes c who t planned) (sym is) (here.0, subst (λ e. IsCreation c who (CreateTable parts) e) (sym made) here.1)
+-- what is planned of the parts of a statement is planned of it
+pub of_parts : (s t : Statement) (c : List Item) (who : Who) (plan : Plan) → s ≡ t → IsPlannedBy (kind_of t) c who plan → IsPlannedBy (kind_of s) c who plan
+of_parts s t c who plan is planned = subst (λ x. IsPlannedBy (kind_of x) c who plan) (sym is) planned
 
-pub drops : (c : List Item) (who : Who) (s : Statement) (role : List ℕ) (edit planned : Edit) → s ≡ DropRole role → planned ≡ edit → Passes (First (drop_refusals c who s)) × IsDrop c who s edit → Makes c who s planned
-drops c who s role edit planned is made h =
-    let here : Passes (First (drop_refusals c who (DropRole role))) × IsDrop c who (DropRole role) edit = subst (λ t. Passes (First (drop_refusals c who t)) × IsDrop c who t edit) is h in
-    subst (λ t. Makes c who t planned) (sym is) (subst (λ e. Makes c who (DropRole role) e) (sym made) here)
+-- with the edit that the kind makes
+pub planned : (s t : Statement) (c : List Item) (who : Who) (edit : Edit) (plan : Plan) → s ≡ t → plan.edit ≡ edit → Passes (First ((kind_of t).refusals c who)) → (kind_of t).makes c who edit
+    → (kind_of t).warns c who edit plan.warning → plan.restrict ≡ (kind_of t).restricts → IsPlannedBy (kind_of s) c who plan
+planned s t c who edit plan is edit_is passes makes warns restrict = of_parts s t c who plan is (
+  passes,
+  record {
+    edit = subst ((kind_of t).makes c who) (sym edit_is) makes;
+    warning = subst (λ e. (kind_of t).warns c who e plan.warning) (sym edit_is) warns;
+    restrict = restrict;
+  },
+)
 
-pub grants : (c : List Item) (who : Who) (s : Statement) (g : Grant) (granting : Granting) (planned : Edit) → s ≡ GrantPrivileges g → planned ≡ granting.edit → Passes (First (grant_refusals c who s)) × IsGranting c who s granting → Makes c who s planned
-grants c who s g granting planned is made h =
-    let here : Passes (First (grant_refusals c who (GrantPrivileges g))) × IsGranting c who (GrantPrivileges g) granting = subst (λ t. Passes (First (grant_refusals c who t)) × IsGranting c who t granting) is h in
-    let makes : Makes c who (GrantPrivileges g) granting.edit = (here.0, (here.1.0, here.1.1, here.1.2.edit)) in
-    subst (λ t. Makes c who t planned) (sym is) (subst (λ e. Makes c who (GrantPrivileges g) e) (sym made) makes)
+-- and without a warning
+pub silently : (s t : Statement) (c : List Item) (who : Who) (edit : Edit) (restrict : Option Bool) (plan : Plan) → s ≡ t → plan ≡ record { edit = edit; warning = None; restrict = restrict }
+    → Passes (First ((kind_of t).refusals c who)) → (kind_of t).makes c who edit → (kind_of t).warns c who edit None → restrict ≡ (kind_of t).restricts → IsPlannedBy (kind_of s) c who plan
+silently s t c who edit restrict plan is made passes makes warns same = planned s t c who edit plan is (ap (λ (p : Plan). p.edit) made) passes makes
+    (subst ((kind_of t).warns c who edit) (sym (ap (λ (p : Plan). p.warning) made)) warns) (ap (λ (p : Plan). p.restrict) made ∙ same)
 
-pub revokes : (c : List Item) (who : Who) (s : Statement) (g : Revoke) (edit planned : Edit) → s ≡ RevokePrivileges g → planned ≡ edit → Passes (First (revoke_refusals c who s)) × IsRevocation c who s edit → Makes c who s planned
-revokes c who s g edit planned is made h =
-    let here : Passes (First (revoke_refusals c who (RevokePrivileges g))) × IsRevocation c who (RevokePrivileges g) edit = subst (λ t. Passes (First (revoke_refusals c who t)) × IsRevocation c who t edit) is h in
-    subst (λ t. Makes c who t planned) (sym is) (subst (λ e. Makes c who (RevokePrivileges g) e) (sym made) here)
+-- a warning that is due where the one is so is due where the other is
+pub warns_as : (P Q : Type 0) (kind : Warning) (warning : Option Warning) → (P → Q) → (Q → P) → WarnsWhere P kind warning → WarnsWhere Q kind warning
+warns_as P Q kind None to from warns = λ q. warns (from q)
+warns_as P Q kind (Some warning) to from warns = (to warns.0, warns.1)
+
+-- DROP of a base table
+pub dropped : (behaviour : Behaviour) (kind : DropKind) (name : ObjectName) (c : List Item) (who : Who) (edit : Edit) (restrict : Option Bool) (plan : Plan) → kind ≡ drops.Table
+    → plan ≡ record { edit = edit; warning = None; restrict = restrict } → Passes (First (drop_table_refusals c who name)) → IsTableDrop c (object_in who.schema name) edit → restrict ≡ where_restrict behaviour false
+    → IsPlannedBy (drop_kind behaviour kind name) c who plan
+dropped behaviour kind name c who edit restrict plan is made passes makes same = subst (λ k. IsPlannedBy (drop_kind behaviour k name) c who plan) (sym is) (
+  passes,
+  record {
+    edit = subst (IsTableDrop c (object_in who.schema name)) (sym (ap (λ (p : Plan). p.edit) made)) makes;
+    warning = ap (λ (p : Plan). p.warning) made;
+    restrict = ap (λ (p : Plan). p.restrict) made ∙ same;
+  },
+)

@@ -1,5 +1,11 @@
 -- A catalogue and a statement settle the refusal, the new catalogue and the warning.
 use Rattle.std.proofs.Common.{◌≡◌, ℕ, Bool, List, [], Option, Some, None, length, refl, sym, ◌∙◌, ap, subst}
+use Rattle.sql_names.specs.declared.column.ObjectName.{ObjectName}
+use Rattle.sql_tree.specs.declared.statement.Behaviour.{Behaviour}
+use Rattle.sql_tree.specs.declared.statement.DropKind.{DropKind}
+use Rattle.sql_tree.specs.declared.statement.DropKind.TheVariants as drops
+use Rattle.sql_tree.specs.declared.statement.DropObject.{DropObject as DropObjectParts}
+use Rattle.sql_tree.specs.declared.statement.GrantPrivileges.{GrantPrivileges as GrantParts}
 use Rattle.sql_tree.specs.declared.statement.SchemaNameClause.{SchemaNameClause}
 use Rattle.sql_tree.specs.declared.statement.Statement.{Statement}
 use Rattle.sql_tree.specs.declared.statement.Statement.TheVariants.{CreateSchema, CreateTable, CreateRole, DropObject, DropRole, GrantPrivileges, GrantRoles, RevokePrivileges, RevokeRoles}
@@ -28,39 +34,19 @@ use Rattle.grant_edit.proofs.Settled.{granting_settled, granting_refusals_settle
 use Rattle.catalogue_edits.specs.declared.warning.Warning.{Warning}
 use Rattle.catalogue_edits.specs.declared.warning.Warning.TheVariants.{NotGranted, NotRevoked}
 use Rattle.catalogue_edits.specs.Limits.{too_many_items, too_many_columns}
-use Rattle.catalogue_edits.specs.Restrict.{restricted, still_needed}
+use Rattle.catalogue_edits.specs.Kinds.{Kind, drop_kind, kind_of, no_kind}
+use Rattle.catalogue_edits.specs.Restrict.{still_needed}
 use Rattle.catalogue_edits.specs.Revisions.{for_edit, outcome_refusals, revision_refusals, IsRevised}
 use Rattle.catalogue_edits.specs.Statements.{edit_refusals, IsEditOf}
-use Rattle.catalogue_edits.specs.Warnings.{WarnsWhere, IsWarning}
+use Rattle.catalogue_edits.specs.Warnings.{WarnsOfLess, WarnsOfNothing, WarnsWhere, is_silent}
 
--- ---- edits
-
-pub edit_settled : (c : List Item) (who : Who) (s : Statement) (a b : Edit) → IsEditOf c who s a → IsEditOf c who s b → a ≡ b
-edit_settled c who (CreateSchema s) a b p q = p ∙ sym q
-edit_settled c who (CreateTable s) a b p q = tables.creation_settled c who s a b p q
-edit_settled c who (DropObject d) a b p q = drop_settled c who (DropObject d) a b p q
-edit_settled c who (CreateRole r) a b p q = creation_settled c who r a b p q
-edit_settled c who (GrantRoles g) a b p q = grant_settled c who g a b p q
-edit_settled c who (RevokeRoles g) a b p q = revoke_settled c who g a b p q
-edit_settled c who (DropRole role) a b p q = drop_settled c who (DropRole role) a b p q
-edit_settled c who (GrantPrivileges g) a b p q = granting_settled c who g a b p q
-edit_settled c who (RevokePrivileges g) a b p q = revocation_settled c who g a b p q
-edit_settled c who s a b p q = absurd p
+-- ---- kinds
 
 create_schema_settled : (c : List Item) (who : Who) (clause : SchemaNameClause) → AreSettled (create_schema_refusals c who clause)
 create_schema_settled c who clause = ((λ a b p q. p.1 ∙ sym q.1), ((λ a b p q. p.1 ∙ sym q.1), ((λ a b p q. p.2 ∙ sym q.2), ((λ a b p q. p.1 ∙ sym q.1), tt))))
 
-edit_refusals_settled : (c : List Item) (who : Who) (s : Statement) → AreSettled (edit_refusals c who s)
-edit_refusals_settled c who (CreateSchema s) = create_schema_settled c who s.schema
-edit_refusals_settled c who (CreateTable s) = tables.creation_refusals_settled c who s
-edit_refusals_settled c who (DropObject d) = drop_refusals_settled c who (DropObject d)
-edit_refusals_settled c who (CreateRole r) = creation_refusals_settled c who r
-edit_refusals_settled c who (GrantRoles g) = grant_refusals_settled c who g
-edit_refusals_settled c who (RevokeRoles g) = revoke_refusals_settled c who g
-edit_refusals_settled c who (DropRole role) = drop_refusals_settled c who (DropRole role)
-edit_refusals_settled c who (GrantPrivileges g) = granting_refusals_settled c who g
-edit_refusals_settled c who (RevokePrivileges g) = revoking_refusals_settled c who g
-edit_refusals_settled c who s = tt
+silent_settled : (c : List Item) (who : Who) (edit : Edit) (a b : Option Warning) → is_silent c who edit a → is_silent c who edit b → a ≡ b
+silent_settled c who edit a b p q = p ∙ sym q
 
 where_settled : (P : Type 0) (kind : Warning) (a b : Option Warning) → WarnsWhere P kind a → WarnsWhere P kind b → a ≡ b
 where_settled P kind None None p q = refl
@@ -68,14 +54,45 @@ where_settled P kind None (Some b) p q = absurd (p q.0)
 where_settled P kind (Some a) None p q = absurd (q p.0)
 where_settled P kind (Some a) (Some b) p q = ap Some (p.1 ∙ sym q.1)
 
-pub warning_settled : (c : List Item) (who : Who) (s : Statement) (edit : Edit) (a b : Option Warning) → IsWarning c who s edit a → IsWarning c who s edit b → a ≡ b
-warning_settled c who (GrantPrivileges g) edit a b p q =
+less_settled : (g : GrantParts) (c : List Item) (who : Who) (edit : Edit) (a b : Option Warning) → WarnsOfLess g c who edit a → WarnsOfLess g c who edit b → a ≡ b
+less_settled g c who edit a b p q =
     let warns : List ℕ → Type 0 = λ n. IsPartial c n g.privileges (privileges_named who g.privileges g.target) in
     let same : p.0 ≡ q.0 = grantor_settled c who g.grantor p.0 q.0 p.1 q.1 in
     where_settled (warns q.0) NotGranted a b (subst (λ n. WarnsWhere (warns n) NotGranted a) same p.2) q.2
-warning_settled c who (RevokePrivileges g) edit a b p q = where_settled (edit.target ≡ []) NotRevoked a b p q
-warning_settled c who (RevokeRoles g) edit a b p q = where_settled (edit.target ≡ []) NotRevoked a b p q
-warning_settled c who s edit a b p q = p ∙ sym q
+
+nothing_settled : (c : List Item) (who : Who) (edit : Edit) (a b : Option Warning) → WarnsOfNothing c who edit a → WarnsOfNothing c who edit b → a ≡ b
+nothing_settled c who edit a b p q = where_settled (edit.target ≡ []) NotRevoked a b p q
+
+-- a kind settles the refusal, the edit and the warning
+pub record IsSettledKind (kind : Kind) : Type 0 where
+  pub refusals : (c : List Item) (who : Who) → AreSettled (kind.refusals c who)
+  pub edit : (c : List Item) (who : Who) (a b : Edit) → kind.makes c who a → kind.makes c who b → a ≡ b
+  pub warning : (c : List Item) (who : Who) (edit : Edit) (a b : Option Warning) → kind.warns c who edit a → kind.warns c who edit b → a ≡ b
+
+nothing_of_kind : IsSettledKind no_kind
+nothing_of_kind = record { refusals = λ c who. tt; edit = λ c who a b p q. absurd p; warning = silent_settled }
+
+drop_kind_settled : (behaviour : Behaviour) (kind : DropKind) (name : ObjectName) → IsSettledKind (drop_kind behaviour kind name)
+drop_kind_settled behaviour drops.Table name =
+    let parts : DropObjectParts = record { kind = drops.Table; object = name; behaviour = behaviour } in
+    record { refusals = λ c who. drop_refusals_settled c who (DropObject parts); edit = λ c who a b p q. drop_settled c who (DropObject parts) a b p q; warning = silent_settled }
+drop_kind_settled behaviour _ name = nothing_of_kind
+
+kind_settled : (s : Statement) → IsSettledKind (kind_of s)
+unfolding kind_of
+kind_settled (CreateSchema s) = record { refusals = λ c who. create_schema_settled c who s.schema; edit = λ c who a b p q. p ∙ sym q; warning = silent_settled }
+kind_settled (CreateTable s) = record { refusals = λ c who. tables.creation_refusals_settled c who s; edit = λ c who a b p q. tables.creation_settled c who s a b p q; warning = silent_settled }
+kind_settled (DropObject d) = drop_kind_settled d.behaviour d.kind d.object
+kind_settled (CreateRole r) = record { refusals = λ c who. creation_refusals_settled c who r; edit = λ c who a b p q. creation_settled c who r a b p q; warning = silent_settled }
+kind_settled (DropRole role) = record { refusals = λ c who. drop_refusals_settled c who (DropRole role); edit = λ c who a b p q. drop_settled c who (DropRole role) a b p q; warning = silent_settled }
+kind_settled (GrantRoles g) = record { refusals = λ c who. grant_refusals_settled c who g; edit = λ c who a b p q. grant_settled c who g a b p q; warning = silent_settled }
+kind_settled (RevokeRoles g) = record { refusals = λ c who. revoke_refusals_settled c who g; edit = λ c who a b p q. revoke_settled c who g a b p q; warning = nothing_settled }
+kind_settled (GrantPrivileges g) = record { refusals = λ c who. granting_refusals_settled c who g; edit = λ c who a b p q. granting_settled c who g a b p q; warning = less_settled g }
+kind_settled (RevokePrivileges g) = record { refusals = λ c who. revoking_refusals_settled c who g; edit = λ c who a b p q. revocation_settled c who g a b p q; warning = nothing_settled }
+kind_settled _ = nothing_of_kind
+
+pub edit_settled : (c : List Item) (who : Who) (s : Statement) (a b : Edit) → IsEditOf c who s a → IsEditOf c who s b → a ≡ b
+edit_settled c who s a b p q = (kind_settled s).edit c who a b p q
 
 -- ---- outcomes
 
@@ -109,10 +126,10 @@ for_edit_settled c who s test settled a b p q =
 
 pub refusal_settled : (limits : Limits) (c : List Item) (who : Who) (s : Statement) → IsSettled (First (revision_refusals limits c who s))
 refusal_settled limits c who s = first_settled (revision_refusals limits c who s) (
-  first_settled (edit_refusals c who s) (edit_refusals_settled c who s),
+  first_settled (edit_refusals c who s) ((kind_settled s).refusals c who),
   (
-    for_edit_settled c who s (λ edit. First (outcome_refusals limits c (restricted s) edit))
-        (λ edit. first_settled (outcome_refusals limits c (restricted s) edit) (outcome_settled limits c (restricted s) edit)),
+    for_edit_settled c who s (λ edit. First (outcome_refusals limits c ((kind_of s).restricts) edit))
+        (λ edit. first_settled (outcome_refusals limits c ((kind_of s).restricts) edit) (outcome_settled limits c ((kind_of s).restricts) edit)),
     tt,
   ),
 )
@@ -120,6 +137,6 @@ refusal_settled limits c who s = first_settled (revision_refusals limits c who s
 pub revision_settled : (c : List Item) (who : Who) (s : Statement) (warning other : Option Warning) (new next : List Item) → IsRevised c who s warning new → IsRevised c who s other next → (warning ≡ other) × (new ≡ next)
 revision_settled c who s warning other new next p q =
     let same : p.edit ≡ q.edit = edit_settled c who s p.edit q.edit p.is_edit q.is_edit in (
-      warning_settled c who s q.edit warning other (subst (λ e. IsWarning c who s e warning) same p.warns) q.warns,
+      (kind_settled s).warning c who q.edit warning other (subst (λ e. (kind_of s).warns c who e warning) same p.warns) q.warns,
       one_new c q.edit new next (subst (λ e. IsNew c e new) same p.is_new) q.is_new,
     )

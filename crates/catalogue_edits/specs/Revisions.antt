@@ -10,9 +10,9 @@ use Rattle.cat_items.specs.Edits.{IsNew}
 use Rattle.edit_rules.specs.First.{First}
 use Rattle.catalogue_edits.specs.declared.warning.Warning.{Warning}
 use Rattle.catalogue_edits.specs.Limits.{too_many_items, too_many_columns}
-use Rattle.catalogue_edits.specs.Restrict.{restricted, still_needed}
+use Rattle.catalogue_edits.specs.Kinds.{kind_of}
+use Rattle.catalogue_edits.specs.Restrict.{still_needed}
 use Rattle.catalogue_edits.specs.Statements.{edit_refusals, IsEditOf}
-use Rattle.catalogue_edits.specs.Warnings.{IsWarning}
 
 -- a test of the statement's edit
 abbrev pub for_edit : List Item → Who → Statement → (Edit → Refusal → Type 0) → Refusal → Type 0
@@ -26,7 +26,7 @@ outcome_refusals limits c restrict edit = still_needed c restrict edit ∷ too_m
 abbrev pub revision_refusals : Limits → List Item → Who → Statement → List (Refusal → Type 0)
 revision_refusals limits c who statement =
     First (edit_refusals c who statement)
-    ∷ for_edit c who statement (λ edit. First (outcome_refusals limits c (restricted statement) edit))
+    ∷ for_edit c who statement (λ edit. First (outcome_refusals limits c (kind_of statement).restricts edit))
     ∷ []
 
 -- the catalogue that the statement makes of another, and what it warns of
@@ -34,4 +34,4 @@ pub record IsRevised (c : List Item) (who : Who) (statement : Statement) (warnin
   pub edit : Edit
   pub is_edit : IsEditOf c who statement edit
   pub is_new : IsNew c edit new
-  pub warns : IsWarning c who statement edit warning
+  pub warns : (kind_of statement).warns c who edit warning

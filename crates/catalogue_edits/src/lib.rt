@@ -7,6 +7,6 @@ mod plan;
 mod revisions;
 mod warning;
 
-pub use laws::{a_refusal_is_settled, a_revision_is_settled};
+pub use laws::{a_refusal_is_settled, a_revision_is_settled, edits_are_sound, edits_leave_users};
 pub use revisions::{is_edit, revise};
 pub use warning::Warning;

@@ -1,57 +1,77 @@
 //! The edit of a statement.
 
-ghost use Rattle.std.specs.Prelude.{◌≡◌, [], IfOk, IsTrue, None};
+ghost use Rattle.std.specs.Prelude.{◌≡◌, IfOk, IsTrue, None, [], true};
 ghost use Rattle.cat_items.specs.Good.{IsGood};
-ghost use Rattle.define_edit.specs.Creations.{HasForms};
+ghost use Rattle.statement_forms.specs.Written.{IsWritten};
 ghost use Rattle.edit_rules.specs.First.{IsTested};
 ghost use Rattle.edit_laws.specs.Sound.{IsSound};
-ghost use Rattle.catalogue_edits.specs.Restrict as restrict;
-ghost use Rattle.catalogue_edits.specs.Statements.{IsBuiltEdit, IsEditOf, edit_refusals};
-ghost use Rattle.catalogue_edits.specs.Warnings.{IsWarning, WarnsWhere};
+ghost use Rattle.catalogue_edits.specs.Kinds as kinds;
+ghost use Rattle.catalogue_edits.specs.Statements.{IsBuiltEdit, IsPlanned, edit_refusals};
+ghost use Rattle.catalogue_edits.specs.Warnings.{WarnsWhere};
 ghost use Rattle.catalogue_edits.specs.declared.warning.Warning.TheVariants.{NotGranted, NotRevoked};
 
 use crate::warning::Warning;
 use cat_items::{Catalogue, Edit, EditError, Who};
-use define_edit::edit_create;
-use drop_edit::edit_drop;
-use grant_edit::{Granting, edit_grant, edit_revoke};
-use role_edit::edit_role;
-use sql_tree::{Behaviour, Statement};
+use define_edit::create_schema;
+use drop_edit::{drop_role, drop_table};
+use grant_edit::{Granting, grant, revoke};
+use role_edit::{create_role, grant_roles, revoke_roles};
+use sql_tree::{Behaviour, DropKind, DropObject, Statement};
 use std::alloc::Global;
+use table_definitions::create_table;
 
-/// An edit, and what the statement that makes it warns of.
+/// An edit, what the statement that makes it warns of, and whether the statement has the behaviour RESTRICT: then
+/// whether its refusal is that of REVOKE and DROP ROLE.
 #[derive(Drop)]
 pub struct Plan {
     pub edit: Edit,
     pub warning: Option<Warning>,
+    pub restrict: Option<bool>,
 }
 
 /// An edit without a warning.
-fn silent(edit: Edit) -> Plan
-    ensures { result ≡ record { edit = edit; warning = None } }
+fn silent(edit: Edit, restrict: Option<bool>) -> Plan
+    ensures { result ≡ record { edit = edit; warning = None; restrict = restrict } }
 {
     Plan {
         edit,
         warning: None,
+        restrict,
     }
 }
 
-/// An edit that warns where it takes nothing.
-fn revoking(edit: Edit) -> Plan
+/// `Some` where the behaviour is RESTRICT.
+fn where_restrict(behaviour: Behaviour, by_rights: bool) -> Option<bool>
+    ensures { result ≡ kinds.where_restrict behaviour by_rights }
+{
+    match behaviour {
+        Behaviour::Restrict => Some(by_rights),
+        Behaviour::Cascade => None,
+    }
+}
+
+/// The edit of REVOKE, which warns where it takes nothing.
+fn revoking(edit: Edit, behaviour: Behaviour) -> Plan
     ensures edit { result.edit ≡ edit }
     ensures warning { WarnsWhere (edit.target ≡ []) NotRevoked result.warning }
+    ensures restrict { result.restrict ≡ kinds.where_restrict behaviour true }
 {
     let warning = match edit.target.is_empty() {
         true => Some(Warning::NotRevoked),
         false => None,
     };
-    Plan { edit, warning }
+    Plan {
+        edit,
+        warning,
+        restrict: where_restrict(behaviour, true),
+    }
 }
 
 /// The edit of GRANT, which warns where less is granted than is listed.
 fn granting(granting: Granting) -> Plan
     ensures edit { result.edit ≡ granting.edit }
     ensures warning { WarnsWhere (IsTrue granting.partial) NotGranted result.warning }
+    ensures restrict { result.restrict ≡ None }
 {
     let warning = match granting.partial {
         true => Some(Warning::NotGranted),
@@ -60,10 +80,27 @@ fn granting(granting: Granting) -> Plan
     Plan {
         edit: granting.edit,
         warning,
+        restrict: None,
     }
 }
 
-/// The edit of a statement and what it warns of, or the first of its refusals by the catalogue as it is.
+/// The plan of a DROP of an object.
+fn dropping(alloc: Global, c: &Catalogue, who: &Who, parts: &DropObject) -> Result<Plan, EditError>
+    requires good { IsGood c.now.items }
+    requires built { (kinds.drop_kind parts.now.behaviour parts.now.kind parts.now.object).built }
+    ensures planned { IsTested ((kinds.drop_kind parts.now.behaviour parts.now.kind parts.now.object).refusals c.now.items who.now)
+        (IsPlanned (kinds.drop_kind parts.now.behaviour parts.now.kind parts.now.object) c.now.items who.now) result }
+    ensures sound { IfOk result (λ plan. IsSound c.now.items plan.edit) }
+{
+    let restrict = where_restrict(parts.behaviour, false);
+    match parts.kind {
+        DropKind::Table => Ok(silent(drop_table(alloc, c, who, &parts.object)?, restrict)),
+        _ => unreachable!(),
+    }
+}
+
+/// What a statement does to a catalogue, or the first of its refusals by the catalogue as it is.
+#[tactic(auto, unfolding(crate::specs::Kinds::kind_of))]
 pub fn plan_of(
     alloc: Global,
     c: &Catalogue,
@@ -72,44 +109,26 @@ pub fn plan_of(
 ) -> Result<Plan, EditError>
     requires good { IsGood c.now.items }
     requires built { IsBuiltEdit statement.now }
-    requires forms { HasForms statement.now }
-    ensures edit { IsTested (edit_refusals c.now.items who.now statement.now) (λ plan. IsEditOf c.now.items who.now statement.now plan.edit) result }
-    ensures warning { IfOk result (λ plan. IsWarning c.now.items who.now statement.now plan.edit plan.warning) }
+    requires written { IsWritten statement.now }
+    ensures planned { IsTested (edit_refusals c.now.items who.now statement.now) (IsPlanned (kinds.kind_of statement.now) c.now.items who.now) result }
     ensures sound { IfOk result (λ plan. IsSound c.now.items plan.edit) }
 {
     match statement {
-        Statement::CreateSchema(_) => Ok(silent(edit_create(alloc, c, who, statement)?)),
-        Statement::CreateTable(_) => Ok(silent(edit_create(alloc, c, who, statement)?)),
-        Statement::DropObject(_) => Ok(silent(edit_drop(alloc, c, who, statement)?)),
-        Statement::CreateRole(_) => Ok(silent(edit_role(alloc, c, who, statement)?)),
-        Statement::DropRole(_) => Ok(silent(edit_drop(alloc, c, who, statement)?)),
-        Statement::GrantRoles(_) => Ok(silent(edit_role(alloc, c, who, statement)?)),
-        Statement::RevokeRoles(_) => Ok(revoking(edit_role(alloc, c, who, statement)?)),
-        Statement::GrantPrivileges(_) => Ok(granting(edit_grant(alloc, c, who, statement)?)),
-        Statement::RevokePrivileges(_) => Ok(revoking(edit_revoke(alloc, c, who, statement)?)),
+        Statement::CreateSchema(parts) => {
+            Ok(silent(create_schema(alloc, c, who, &parts.schema)?, None))
+        }
+        Statement::CreateTable(parts) => Ok(silent(create_table(alloc, c, who, parts)?, None)),
+        Statement::DropObject(parts) => dropping(alloc, c, who, parts),
+        Statement::CreateRole(parts) => Ok(silent(create_role(alloc, c, who, parts)?, None)),
+        Statement::DropRole(role) => Ok(silent(drop_role(alloc, c, who, role)?, Some(true))),
+        Statement::GrantRoles(parts) => Ok(silent(grant_roles(alloc, c, who, parts)?, None)),
+        Statement::RevokeRoles(parts) => {
+            Ok(revoking(revoke_roles(alloc, c, who, parts)?, parts.behaviour))
+        }
+        Statement::GrantPrivileges(parts) => Ok(granting(grant(alloc, c, who, parts)?)),
+        Statement::RevokePrivileges(parts) => {
+            Ok(revoking(revoke(alloc, c, who, parts)?, parts.behaviour))
+        }
         _ => unreachable!(),
-    }
-}
-
-/// `Some` where the behaviour is RESTRICT.
-fn where_restrict(behaviour: Behaviour, by_rights: bool) -> Option<bool>
-    ensures { result ≡ restrict.where_restrict behaviour by_rights }
-{
-    match behaviour {
-        Behaviour::Restrict => Some(by_rights),
-        Behaviour::Cascade => None,
-    }
-}
-
-/// Whether a statement has the behaviour RESTRICT, and then whether it is REVOKE or DROP ROLE.
-pub fn restricted(statement: &Statement) -> Option<bool>
-    ensures { result ≡ restrict.restricted statement.now }
-{
-    match statement {
-        Statement::DropObject(parts) => where_restrict(parts.behaviour, false),
-        Statement::RevokePrivileges(parts) => where_restrict(parts.behaviour, true),
-        Statement::RevokeRoles(parts) => where_restrict(parts.behaviour, true),
-        Statement::DropRole(_) => Some(true),
-        _ => None,
     }
 }

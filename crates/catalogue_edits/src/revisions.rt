@@ -2,25 +2,27 @@
 
 ghost use Rattle.std.specs.Prelude.{◌≡◌, ◌↔◌, IsTrue};
 ghost use Rattle.cat_items.specs.Good.{IsGood};
-ghost use Rattle.define_edit.specs.Creations.{HasForms};
+ghost use Rattle.statement_forms.specs.Written.{IsWritten};
 ghost use Rattle.edit_rules.specs.First.{Tested};
 ghost use Rattle.catalogue_edits.specs.Revisions.{IsRevised, revision_refusals};
 ghost use Rattle.catalogue_edits.specs.Statements.{IsBuiltEdit};
 
 use crate::outcome::outcome;
-use crate::plan::{plan_of, restricted};
+use crate::plan::plan_of;
 use crate::warning::Warning;
 use cat_items::{Catalogue, EditError, Limits, Who};
-use define_edit::is_built_creation;
 use sql_tree::{DropKind, Statement};
 use std::alloc::Global;
+use table_definitions::is_built;
 
 /// Whether a statement edits the catalogue, and is of a kind that is built.
+#[tactic(auto, unfolding(crate::specs::Kinds::kind_of))]
 pub fn is_edit(statement: &Statement) -> bool
     ensures { IsTrue result ↔ IsBuiltEdit statement.now }
 {
     match statement {
-        Statement::CreateSchema(_) | Statement::CreateTable(_) => is_built_creation(statement),
+        Statement::CreateSchema(parts) => parts.elements.is_empty(),
+        Statement::CreateTable(parts) => is_built(&parts.elements),
         Statement::DropObject(parts) => matches!(parts.kind, DropKind::Table),
         Statement::CreateRole(_) | Statement::GrantRoles(_) | Statement::RevokeRoles(_) => true,
         Statement::DropRole(_) => true,
@@ -42,13 +44,13 @@ pub fn revise(
 ) -> Result<Option<Warning>, EditError>
     requires good { IsGood c.old.items }
     requires built { IsBuiltEdit statement.now }
-    requires forms { HasForms statement.now }
+    requires written { IsWritten statement.now }
     ensures tested { Tested (revision_refusals limits.now c.old.items who.now statement.now)
         (λ warning. IsRevised c.old.items who.now statement.now warning c.new.items) (c.new.items ≡ c.old.items) result }
     ensures good { IsGood c.new.items }
 {
     let plan = plan_of(alloc, c, who, statement)?;
-    let new = outcome(alloc, limits, c, &plan.edit, restricted(statement))?;
+    let new = outcome(alloc, limits, c, &plan.edit, plan.restrict)?;
     *c = new;
     Ok(plan.warning)
 }

@@ -1,9 +1,4 @@
-pub mod Complete
-pub mod Quoted
-pub mod RunLaws
+pub mod CommandLaws
 pub mod Openings
-pub mod Paths
-pub mod Pieces
-pub mod Taking
 pub mod UserLists
 pub mod UserNames

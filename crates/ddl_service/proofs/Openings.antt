@@ -1,8 +1,8 @@
 -- The users of the command line are users with whom a book may open.
-use Rattle.std.proofs.Common.{◌≡◌, true, false, ℕ, List, [], ◌∷◌, subst}
+use Rattle.std.proofs.Common.{◌≡◌, true, false, ℕ, List, subst}
 use Rattle.std.specs.List.{All}
 use Rattle.cat_items.specs.Shape.{IsAuthorizationName}
-use Rattle.ddl_service.specs.Users.{is_user_name, is_regular, AreUsers, NameUsers}
+use Rattle.ddl_service.specs.Users.{is_user_name, is_regular, AreUsers}
 
 allowed_name : (name : List ℕ) → is_user_name name ≡ true → IsAuthorizationName name
 unfolding is_user_name is_regular
@@ -13,7 +13,3 @@ allowed_name name h = (
 
 pub allowed_users : (users : List (List ℕ)) → AreUsers users → All IsAuthorizationName users
 allowed_users users are k d below = allowed_name _ (are.each k d below)
-
-pub named_users : (words users : List (List ℕ)) → NameUsers words users → AreUsers users
-named_users (command ∷ option ∷ list ∷ []) users names = names.2.are_users
-named_users words users names = absurd names

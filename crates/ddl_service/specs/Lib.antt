@@ -1,6 +1,4 @@
-pub mod Printed
-pub mod Runs
-pub mod Script
-pub mod Stops
+pub mod Commands
+pub mod Finish
 pub mod Top
 pub mod Users

@@ -1,14 +1,23 @@
 -- How the program may end.
-use Rattle.std.specs.Prelude.{◌≡◌, ◌⊎◌, ℕ, List, Option, Some}
+use Rattle.std.specs.Prelude.{◌≡◌, ◌⊎◌, ◌↔◌, ℕ, Bool, IsTrue, List, Option, Some}
 use Rattle.cat_items.specs.declared.limits.Limits.{Limits}
 use Rattle.cat_engine.specs.Contents.{State}
+use Rattle.cat_items.specs.Good.{IsGood}
 use Rattle.cat_engine.specs.Histories.{IsOpening}
-use Rattle.ddl_service.specs.Script.{IsWellEnded, Script}
-use Rattle.ddl_service.specs.Users.{NameUsers}
-use Rattle.ddl_service.specs.declared.script.Ended.{Ended}
-use Rattle.ddl_service.specs.declared.script.Ended.TheVariants as ended
-use Rattle.ddl_service.specs.declared.start.Status.{Status}
-use Rattle.ddl_service.specs.declared.start.Status.TheVariants.{Done, Usage, ReadFault, WriteFault, TooLong, Unfinished, OutOfMemory}
+use Rattle.cat_engine.specs.Shared.{history_of, origin_of}
+use Rattle.cat_engine.specs.declared.machine.Origin.{Origin}
+use Rattle.sessions.specs.Calls.{IsApplied}
+use Rattle.sessions.specs.Script.{Io, IsWellEnded, io}
+use Rattle.sessions.specs.Script as scripts
+use Rattle.sessions.specs.Serving.{RanServe}
+use Rattle.sessions.specs.declared.script.Ended.{Ended}
+use Rattle.sessions.specs.declared.script.Ended.TheVariants as ended
+use Rattle.sessions.specs.declared.status.Status.{Status}
+use Rattle.sessions.specs.declared.status.Status.TheVariants.{Done, Usage, ReadFault, WriteFault, ListenFault, TooLong, Unfinished, OutOfMemory}
+use Rattle.ddl_service.specs.Commands.{Asks, AsksForDefinition}
+use Rattle.ddl_service.specs.Finish.{Finishes}
+use Rattle.ddl_service.specs.declared.command_line.Command.{Command}
+use Rattle.ddl_service.specs.declared.command_line.Command.TheVariants.{Script, Serve}
 
 -- the status of a script's end
 abbrev pub status_of : Ended → Status
@@ -22,29 +31,58 @@ status_of ended.Unfinished = Unfinished
 abbrev pub standard_limits : Limits
 standard_limits = record { items = 200000; columns = 1000; journal = 268435456; stream = 1073741824 }
 
--- the script of these users ran from the opening, under the standard limits, and the status is that of its end
-pub record RanScript (status : Status) (users : List (List ℕ)) (left_before left_after given_before given_after : Option (List ℕ)) : Type 0 where
+-- the script of these users ran from the opening, under the standard limits; where it is done and the Definition Schema is asked for, that was written of the
+-- catalogue behind it
+pub record RanScript (definition : Bool) (status : Status) (users : List (List ℕ)) (io_before io_after : Io) : Type 0 where
   pub end : Ended
-  pub status_is : status ≡ status_of end
   pub before : State
   pub opening : IsOpening users standard_limits before
   pub after : State
   pub missed : ℕ
-  pub script : Script end 1073741824 before after left_before left_after given_before given_after missed
+  pub good : IsGood after.content.catalogue
+  -- what the sink was given when the script ended
+  pub given : Option (List ℕ)
+  pub script : scripts.Script IsApplied end 1073741824 before after io_before (io io_after.left given) missed
+  pub finish : Finishes definition (status_of end) after status given io_after.given
 
--- nothing was taken or written
-pub record Untouched (left_before left_after given_before given_after : Option (List ℕ)) : Type 0 where
-  pub left : left_after ≡ left_before
-  pub given : given_after ≡ given_before
+-- what a book of these users is made with
+abbrev pub origin : List (List ℕ) → Origin
+origin users = record { users = users; limits = standard_limits }
 
--- where the words name users their script ran; where they name none the program says so; before either, memory may run out
-abbrev pub Ends : List (List ℕ) → Status → Option (List ℕ) → Option (List ℕ) → Option (List ℕ) → Option (List ℕ) → Type 0
-Ends words status left_before left_after given_before given_after =
-    ((users : List (List ℕ)) × NameUsers words users × RanScript status users left_before left_after given_before given_after)
-    ⊎ ((status ≡ Usage) × ((users : List (List ℕ)) → ¬ (NameUsers words users)) × Untouched left_before left_after given_before given_after)
-    ⊎ ((status ≡ OutOfMemory) × Untouched left_before left_after given_before given_after)
+module _ {C : Type 0} (left given : C → Option (List ℕ)) (take_faults put_faults : C → ℕ) where
+  -- connections were served from the opening of these users by one history, which the book keeps that came back; behind that the Definition Schema was
+  -- written of its catalogue, where it is asked for
+  pub record Served (definition : Bool) (status : Status) (users : List (List ℕ)) (connections : ℕ) (left_before left_after returned_before returned_after : Option (List C)) (out_before out_after : ℕ) (given_before given_after : Option (List ℕ)) : Type 0 where
+    pub end : Status
+    pub after : State
+    pub made : origin_of after ≡ origin users
+    pub ran : RanServe left given take_faults put_faults standard_limits (origin users) (history_of after) end connections left_before left_after returned_before returned_after out_before out_after
+    pub good : IsGood after.content.catalogue
+    pub finish : Finishes definition end after status given_before given_after
 
--- where the words name users, the stream ends well and nothing fails, the program is done, unless memory runs out
-abbrev pub ProgramCompletes : List (List ℕ) → Status → Option (List ℕ) → Type 0 → Type 0 → Type 0
-ProgramCompletes words status left read_fault write_fault = (users : List (List ℕ)) (stream : List ℕ) → NameUsers words users → left ≡ Some stream → IsWellEnded 1073741824 stream
-    → ¬ read_fault → ¬ write_fault → (status ≡ Done) ⊎ (status ≡ OutOfMemory)
+  -- the listener didn't begin, and gave nothing; or it gave connections, which were served
+  abbrev pub RanServer : Bool → Status → List (List ℕ) → ℕ → Option (List C) → Option (List C) → Option (List C) → Option (List C) → ℕ → ℕ → Option (List ℕ) → Option (List ℕ) → Type 0
+  RanServer definition status users connections left_before left_after returned_before returned_after out_before out_after given_before given_after =
+      ((status ≡ ListenFault) × (left_after ≡ left_before) × (returned_after ≡ returned_before) × (out_after ≡ out_before) × (given_after ≡ given_before))
+      ⊎ Served definition status users connections left_before left_after returned_before returned_after out_before out_after given_before given_after
+
+-- no call of the source or the sink was made
+pub record Untouched {S W : Type 0} (source_before source_after : S) (sink_before sink_after : W) : Type 0 where
+  pub source : source_after ≡ source_before
+  pub sink : sink_after ≡ sink_before
+
+-- where the words ask for a script or a server, that ran of the users that they list; where they ask for none the program says so; before either, memory may run out
+abbrev pub Ends : List (List ℕ) → Status → Type 0 → (Bool → List (List ℕ) → Type 0) → (Bool → List (List ℕ) → ℕ → Type 0) → Type 0
+Ends words status untouched ran_script ran_server =
+    ((users : List (List ℕ)) × (definition : Bool) × Asks words Script users × (IsTrue definition ↔ AsksForDefinition words) × ran_script definition users)
+    ⊎ ((users : List (List ℕ)) × (definition : Bool) × (port connections : ℕ) × Asks words (Serve port connections) users × (IsTrue definition ↔ AsksForDefinition words) × ran_server definition users connections)
+    ⊎ ((status ≡ Usage) × ((command : Command) (users : List (List ℕ)) → ¬ (Asks words command users)) × untouched)
+    ⊎ ((status ≡ OutOfMemory) × untouched)
+
+-- over a stream that ends well, where nothing fails, all is done, unless memory runs out
+abbrev pub IsDoneOver : Status → Option (List ℕ) → Type 0 → Type 0 → Type 0
+IsDoneOver status left read_fault write_fault = (stream : List ℕ) → left ≡ Some stream → IsWellEnded 1073741824 stream → ¬ read_fault → ¬ write_fault → (status ≡ Done) ⊎ (status ≡ OutOfMemory)
+
+-- so is a script
+abbrev pub ScriptIsDone : List (List ℕ) → Status → Option (List ℕ) → Type 0 → Type 0 → Type 0
+ScriptIsDone words status left read_fault write_fault = (users : List (List ℕ)) → Asks words Script users → IsDoneOver status left read_fault write_fault

@@ -1,4 +1,4 @@
--- The users that the words of the command line name.
+-- The users of a command line.
 use Rattle.std.specs.Prelude.{◌≡◌, ◌≢◌, ◌≤◌, ◌==◌, Bool, false, IsTrue, not, ◌&&◌, ◌||◌, nat_le, ℕ, List, [], ◌∷◌, length, codes, All, Contains, ◌<◌}
 use Rattle.std.specs.Char.{is_ascii_uppercase, is_ascii_digit}
 use Rattle.std.specs.List.{AllPairs, join_with_byte, list_all}
@@ -35,8 +35,3 @@ pub record MayFollow (users : List (List ℕ)) (name : List ℕ) : Type 0 where
 pub record Lists (list : List ℕ) (users : List (List ℕ)) : Type 0 where
   pub joined : list ≡ join_with_byte 44 users
   pub are_users : AreUsers users
-
--- the words are `script`, `--users` and a list of these users
-abbrev pub NameUsers : List (List ℕ) → List (List ℕ) → Type 0
-NameUsers (command ∷ option ∷ list ∷ []) users = (command ≡ codes "script") × (option ≡ codes "--users") × Lists list users
-NameUsers words users = ⊥

@@ -1,14 +1,12 @@
-//! Sessions of the server: from the bytes that come in to the bytes that go out.
+//! The server's one call: from the words of the command line to its status.
 #![tactic(auto)]
 
 mod command_line;
-mod items;
-mod names;
-mod print;
+mod finish;
 mod regular;
-mod script;
 mod start;
 
-pub use print::write_reply;
-pub use script::{Ended, Ran, run_script};
-pub use start::{Status, top};
+pub use sessions::{
+    Ended, Over, Ran, Served, Status, run_script, serve, serve_session, write_reply,
+};
+pub use start::top;

@@ -1,33 +1,21 @@
-ghost use Rattle.std.specs.Prelude.{◌≡◌, IfOk, OnErr, map};
+ghost use Rattle.std.specs.Prelude.{◌≡◌, ◌≢◌, ◌≤◌, IfOk, OnErr, map};
 ghost use Rattle.std.specs.String.{string_bytes};
-ghost use Rattle.cat_engine.specs.Contents.{State};
-ghost use Rattle.cat_engine.specs.Histories.{IsOpening};
-ghost use Rattle.ddl_service.specs.Script.{ScriptCompletes, Script};
+ghost use Rattle.sessions.specs.Script.{io};
 ghost use Rattle.ddl_service.specs.Top as spec;
 ghost use Rattle.ddl_service.specs.Users.{AreUsers};
 ghost use Rattle.svc_io.specs.Faults.{Rose};
 
-use crate::command_line::given;
-use crate::script::{Ended, Ran, run_script};
+use crate::command_line::{Asked, Command, asked_by};
+use crate::finish::finish;
 use cat_engine::Book;
 use cat_items::Limits;
+use sessions::{Ended, Status, listen, run_script};
 use sql_tree::Name;
 use sql_words::Splitter;
 use std::alloc::{AllocError, Global};
-use svc_io::{Sink, Source};
-
-/// How the program ends.
-#[derive(Clone, Copy, Debug, PartialEq, Eq)]
-pub enum Status {
-    Done = 0,
-    Usage = 2,
-    ReadFault = 3,
-    WriteFault = 4,
-    ListenFault = 5,
-    TooLong = 6,
-    Unfinished = 7,
-    OutOfMemory = 8,
-}
+use std::sync::Wait;
+use std::thread::Threads;
+use svc_io::{Listener, Sink, Source};
 
 fn status_of(ended: Ended) -> Status
     ensures { result ≡ spec.status_of ended }
@@ -45,45 +33,94 @@ fn status_of(ended: Ended) -> Status
 fn script<S: Source, W: Sink>(
     alloc: Global,
     users: &Vec<Name>,
+    definition: bool,
     source: &mut S,
     sink: &mut W,
-) -> Result<Ran, AllocError>
+) -> Result<Status, AllocError>
     requires { AreUsers users.now.items }
-    ensures ok { IfOk result (λ ran. (before : State) × (after : State) × IsOpening users.now.items spec.standard_limits before × Script ran.ended 1073741824 before after
-        (S.left source.old) (S.left source.new) (W.given sink.old) (W.given sink.new) ran.missed) }
-    ensures err { OnErr result (spec.Untouched (S.left source.old) (S.left source.new) (W.given sink.old) (W.given sink.new)) }
-    ensures complete { IfOk result (λ ran. ScriptCompletes ran.ended 1073741824 (S.left source.old)
+    ensures ok { IfOk result (λ status. spec.RanScript definition status users.now.items
+        (io (S.left source.old) (W.given sink.old)) (io (S.left source.new) (W.given sink.new))) }
+    ensures err { OnErr result (spec.Untouched source.old source.new sink.old sink.new) }
+    ensures complete { IfOk result (λ status. spec.IsDoneOver status (S.left source.old)
         (Rose (S.faults source.old) (S.faults source.new)) (Rose (W.faults sink.old) (W.faults sink.new))) }
-    ensures read_fault { IfOk result (λ ran. ran.ended ≡ Ended.ReadFault → Rose (S.faults source.old) (S.faults source.new)) }
-    ensures write_fault { IfOk result (λ ran. ran.ended ≡ Ended.WriteFault → Rose (W.faults sink.old) (W.faults sink.new)) }
+    ensures read_fault { IfOk result (λ status. status ≡ Status.ReadFault → Rose (S.faults source.old) (S.faults source.new)) }
+    ensures write_fault { IfOk result (λ status. status ≡ Status.WriteFault → Rose (W.faults sink.old) (W.faults sink.new)) }
+    ensures quiet { IfOk result (λ status. status ≢ Status.ListenFault) }
 {
     let limits = Limits::standard();
     let mut book = Book::new(alloc, users, limits)?;
     let mut splitter = Splitter::new(alloc)?;
-    Ok(run_script(&mut book, &mut splitter, source, sink, &limits))
+    let ran = run_script(&mut book, &mut splitter, source, sink, &limits);
+    let end = status_of(ran.ended);
+    Ok(finish(alloc, definition, end, &book, sink))
+}
+
+// Serves so many connections at a port, of these users.
+fn server<R: Threads + Wait + Sync, W: Sink, L: Listener>(
+    rt: &R,
+    alloc: Global,
+    asked: &Asked,
+    sink: &mut W,
+    listener: &mut L,
+    port: u16,
+    connections: u16,
+) -> Result<Status, AllocError>
+    requires users { AreUsers asked.now.users.items }
+    requires few { connections ≤ 1000 }
+    ensures ok { IfOk result (λ status. spec.RanServer L.Conn.left L.Conn.given L.Conn.Source.faults L.Conn.Sink.faults asked.now.definition status asked.now.users.items connections
+        (L.left listener.old) (L.left listener.new) (L.returned listener.old) (L.returned listener.new) (L.out listener.old) (L.out listener.new)
+        (W.given sink.old) (W.given sink.new)) }
+    ensures err { OnErr result ((listener.new ≡ listener.old) × (sink.new ≡ sink.old)) }
+    ensures quiet { IfOk result (λ status. status ≡ Status.Done → L.faults listener.new ≡ L.faults listener.old) }
+    ensures fault { IfOk result (λ status. status ≡ Status.ListenFault → Rose (L.faults listener.old) (L.faults listener.new)) }
+    ensures write_fault { IfOk result (λ status. status ≡ Status.WriteFault → Rose (W.faults sink.old) (W.faults sink.new)) }
+    ensures halts { IfOk result (λ status. status ≢ Status.ReadFault) }
+{
+    let limits = Limits::standard();
+    let book = Book::new(alloc, &asked.users, limits)?;
+    let (end, book) = listen(rt, alloc, book, listener, port, connections as u32, &limits);
+    Ok(finish(alloc, asked.definition, end, &book, sink))
 }
 
 /// All that the program does, from the words of the command line on.
-pub fn top<S: Source, W: Sink>(
+pub fn top<R: Threads + Wait + Sync, S: Source, W: Sink, L: Listener>(
+    rt: &R,
     alloc: Global,
     words: &Vec<String>,
     source: &mut S,
     sink: &mut W,
+    listener: &mut L,
 ) -> Status
-    // The words decide, and the script of their users runs from the opening to its end.
+    // The words decide, and what they ask for is done of their users from the opening to its end. A script leaves the listener, and a
+    // server the source; what a server gives the sink is the Definition Schema alone.
     ensures ends { spec.Ends (map (λ word. string_bytes word) words.now.items) result
-        (S.left source.old) (S.left source.new) (W.given sink.old) (W.given sink.new) }
-    ensures complete { spec.ProgramCompletes (map (λ word. string_bytes word) words.now.items) result (S.left source.old)
+        (spec.Untouched source.old source.new sink.old sink.new × (listener.new ≡ listener.old))
+        (λ definition users. spec.RanScript definition result users (io (S.left source.old) (W.given sink.old)) (io (S.left source.new) (W.given sink.new)) × (listener.new ≡ listener.old))
+        (λ definition users connections. spec.RanServer L.Conn.left L.Conn.given L.Conn.Source.faults L.Conn.Sink.faults definition result users connections
+        (L.left listener.old) (L.left listener.new) (L.returned listener.old) (L.returned listener.new) (L.out listener.old) (L.out listener.new)
+        (W.given sink.old) (W.given sink.new)
+        × (result ≡ Status.Done → L.faults listener.new ≡ L.faults listener.old) × (source.new ≡ source.old)) }
+    ensures script { spec.ScriptIsDone (map (λ word. string_bytes word) words.now.items) result (S.left source.old)
         (Rose (S.faults source.old) (S.faults source.new)) (Rose (W.faults sink.old) (W.faults sink.new)) }
     ensures read_fault { result ≡ Status.ReadFault → Rose (S.faults source.old) (S.faults source.new) }
     ensures write_fault { result ≡ Status.WriteFault → Rose (W.faults sink.old) (W.faults sink.new) }
+    ensures listen_fault { result ≡ Status.ListenFault → Rose (L.faults listener.old) (L.faults listener.new) }
 {
-    match given(alloc, words) {
-        Ok(Some(users)) => match script(alloc, &users, source, sink) {
-            Ok(ran) => status_of(ran.ended),
+    let asked = match asked_by(alloc, words) {
+        Ok(Some(asked)) => asked,
+        Ok(None) => return Status::Usage,
+        Err(_) => return Status::OutOfMemory,
+    };
+    match asked.command {
+        Command::Script => match script(alloc, &asked.users, asked.definition, source, sink) {
+            Ok(status) => status,
             Err(_) => Status::OutOfMemory,
         },
-        Ok(None) => Status::Usage,
-        Err(_) => Status::OutOfMemory,
+        Command::Serve { port, connections } => {
+            match server(rt, alloc, &asked, sink, listener, port, connections) {
+                Ok(status) => status,
+                Err(_) => Status::OutOfMemory,
+            }
+        }
     }
 }

@@ -1,4 +1,4 @@
-//! The server's program: it makes the real source and sink, and calls `top`.
+//! The server's program: it makes the real source, sink and listener, and calls `top`.
 #![tactic(auto)]
 
 use ddl_service::{Status, top};
@@ -6,7 +6,7 @@ use std::alloc::{Alloc, Global};
 use std::env::{self, Env};
 use std::io;
 use std::process::ExitCode;
-use svc_io::{StdSink, StdSource};
+use svc_io::{StdSink, StdSource, TcpDoor};
 
 fn message(status: Status) -> &'static str {
     match status {
@@ -44,7 +44,8 @@ fn main(rt: HostRuntime) -> ExitCode {
         Ok(words) => {
             let mut source = StdSource::new(rt.stdin());
             let mut sink = StdSink::new(rt.stdout());
-            top(rt.alloc(), &words, &mut source, &mut sink)
+            let mut door = TcpDoor::new(&rt);
+            top(&rt, rt.alloc(), &words, &mut source, &mut sink, &mut door)
         }
         Err(status) => status,
     };

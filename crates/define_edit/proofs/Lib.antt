@@ -1,1 +1,1 @@
-mod SchemaLemmas
+pub mod SchemaLemmas

@@ -6,7 +6,6 @@ use Rattle.cat_items.specs.declared.edit.Edit.{Edit}
 use Rattle.cat_items.specs.declared.edit.Refusal.{Refusal}
 use Rattle.cat_items.specs.declared.edit.Who.{Who}
 use Rattle.cat_items.specs.declared.item.Item.{Item}
-use Rattle.table_parts.specs.Forms.{HasTableForms}
 use Rattle.table_definitions.specs.Built.{IsBuiltTable}
 use Rattle.table_definitions.specs.Tables.{IsTableCreation, create_table_refusals}
 use Rattle.define_edit.specs.CreatedSchemas.{create_schema_refusals, create_schema_edit}
@@ -16,11 +15,6 @@ abbrev pub IsBuiltCreation : Statement → Type 0
 IsBuiltCreation (CreateSchema s) = s.elements ≡ []
 IsBuiltCreation (CreateTable s) = IsBuiltTable s.elements
 IsBuiltCreation statement = ⊥
-
--- what the grammar gives of the parts of a statement beyond their types
-abbrev pub HasForms : Statement → Type 0
-HasForms (CreateTable s) = HasTableForms s.elements
-HasForms statement = Unit {0}
 
 -- the refusals by the tree, names, owners, taken names, types and privileges, in their order
 abbrev pub creation_refusals : List Item → Who → Statement → List (Refusal → Type 0)

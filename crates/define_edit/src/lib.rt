@@ -4,4 +4,5 @@
 mod creations;
 mod schemas;
 
-pub use creations::{edit_create, is_built_creation};
+pub use creations::edit_create;
+pub use schemas::create_schema;

@@ -6,3 +6,5 @@ mod roles;
 mod tables;
 
 pub use drops::edit_drop;
+pub use roles::drop_role;
+pub use tables::drop_table;

@@ -1,5 +1,10 @@
 pub mod EditedLists
 pub mod Fits
+pub mod FormLaws
 pub mod GoodCatalogues
+pub mod KeysAndNames
+pub mod ProperEdits
+pub mod PutBackLaws
 pub mod Shapes
 pub mod Taking
+pub mod Users

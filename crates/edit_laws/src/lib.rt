@@ -4,6 +4,7 @@
 mod laws;
 
 pub use laws::{
-    an_edit_has_an_edited_catalogue, good_catalogues_support_their_items,
-    proper_additions_keep_shape,
+    an_edit_has_an_edited_catalogue, columns_put_back_are_proper,
+    good_catalogues_support_their_items, proper_additions_keep_shape, proper_edits_are_sound,
+    users_stay, usual_edits_are_sound,
 };

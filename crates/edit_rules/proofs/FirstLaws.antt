@@ -68,6 +68,13 @@ passes_both [] others all more = more
 passes_both (test ∷ tests) others all more =
     passes_more test (tests ++ others) (passes_first test tests all) (passes_both tests others (passes_rest test tests all) more)
 
+-- where a list of tests passes, its beginning and its rest pass
+pub passes_front : (tests others : List (Refusal → Type 0)) → Passes (First (tests ++ others)) → Passes (First tests)
+passes_front tests others all refusal h = all refusal (first_left tests others refusal h)
+
+pub passes_behind : (tests others : List (Refusal → Type 0)) → Passes (First (tests ++ others)) → Passes (First others)
+passes_behind tests others all refusal h = all refusal (first_right tests others refusal (passes_front tests others all) h)
+
 -- one test
 pub passes_one : (test : Refusal → Type 0) → Passes test → Passes (First (test ∷ []))
 passes_one test here = passes_more test [] here passes_none

@@ -3,16 +3,16 @@ use Rattle.std.specs.Prelude.{◌≡◌, Bool, false, true, List}
 use Rattle.std.specs.List.{Contains}
 use Rattle.finite_chains.specs.Chains.{IsWithin, Survives, HasSurvivors}
 
--- The laws that the cascade goes by. c has the old survivors among g, f is what the new ones are taken of, u has every item that is spoken of.
-pub record ChangeLaws {X : Type 0} (old new : List X → X → Type 0) (relevant : X → X → Type 0) (suspect : X → Bool) (g c f : List X) : Type 0 where
-  -- what supports an item goes on to do so where each item relevant to it stays
-  pub old_local : (s t : List X) (x : X) → IsWithin t g → Contains g x → ((y : X) → Contains s y → relevant y x → Contains t y) → old s x → old t x
-  pub new_local : (s t : List X) (x : X) → IsWithin t f → Contains f x → ((y : X) → Contains s y → relevant y x → Contains t y) → new s x → new t x
+-- The laws that the cascade goes by. c has the old survivors among g, and f is what the new ones are taken of.
+pub record LawsOfChange {X : Type 0} (old new : List X → X → Type 0) (concerns : X → X → Type 0) (suspect : X → Bool) (g c f : List X) : Type 0 where
+  -- what supports an item goes on to do so where each item that concerns it stays
+  pub old_local : (s t : List X) (x : X) → IsWithin s c → IsWithin t c → Contains c x → ((y : X) → Contains s y → concerns y x → Contains t y) → old s x → old t x
+  pub new_local : (s t : List X) (x : X) → IsWithin s f → IsWithin t f → Contains f x → ((y : X) → Contains s y → concerns y x → Contains t y) → new s x → new t x
   -- an item that is no suspect is supported alike
-  pub stable_new : (s : List X) (x : X) → IsWithin s f → suspect x ≡ false → old s x → new s x
-  pub stable_old : (s : List X) (x : X) → IsWithin s f → suspect x ≡ false → new s x → old s x
-  -- what a suspect is relevant to is a suspect
-  pub spreads : (y x : X) → relevant y x → suspect y ≡ true → suspect x ≡ true
+  pub stable_new : (s : List X) (x : X) → Contains c x → suspect x ≡ false → old s x → new s x
+  pub stable_old : (s : List X) (x : X) → Contains f x → suspect x ≡ false → new s x → old s x
+  -- what a suspect concerns is a suspect
+  pub spreads : (y x : X) → Contains g x → concerns y x → suspect y ≡ true → suspect x ≡ true
   -- what is no suspect stands in both or in none
   pub stays : (x : X) → suspect x ≡ false → Contains c x → Contains f x
   pub known : (x : X) → suspect x ≡ false → Contains f x → Contains g x

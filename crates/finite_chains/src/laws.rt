@@ -1,7 +1,7 @@
 ghost use Rattle.std.specs.Prelude.{◌≡◌, ◌<◌, ◌↔◌, ℕ, Bool, true, false, List, [], length, All};
 ghost use Rattle.std.specs.List.{Contains, sum_by};
 ghost use Rattle.finite_chains.specs.Chains.{Agree, HasSurvivors, IsClosed, IsMonotone, Survives};
-ghost use Rattle.finite_chains.specs.Changes.{ChangeLaws, IsRescued};
+ghost use Rattle.finite_chains.specs.Changes.{LawsOfChange, IsRescued};
 ghost use Rattle.finite_chains.specs.Growth.{IsTest, grown};
 ghost use Rattle.finite_chains.specs.LinkSums.{hits, sum_below};
 ghost use Rattle.finite_chains.specs.StrictOrder.{IsRising};
@@ -15,8 +15,8 @@ pub trait Support {
     ghost supports: { List Self.Item → Self.Item → Type 0 };
 }
 
-/// A change of a list: how items were supported before and are supported after it, and which item is
-/// relevant to the support of which.
+/// A change of a list: how items were supported before and are supported after it, and which item
+/// concerns the support of which.
 pub trait Change {
     ghost use Rattle.std.specs.Prelude.{Bool, List};
 
@@ -26,7 +26,7 @@ pub trait Change {
 
     ghost after: { List Self.Item → Self.Item → Type 0 };
 
-    ghost relevant: { Self.Item → Self.Item → Type 0 };
+    ghost concerns: { Self.Item → Self.Item → Type 0 };
 
     ghost suspect: { Self.Item → Bool };
 }
@@ -61,14 +61,14 @@ pub fn a_circle_falls<S: Support>()
 
 /// The first half of a change: an item that the change doesn't concern goes on to survive.
 pub fn a_change_keeps_what_it_does_not_concern<C: Change>()
-    ensures { (known old new : List C.Item) → ChangeLaws C.before C.after C.relevant C.suspect known old new → IsMonotone C.after
+    ensures { (known old new : List C.Item) → LawsOfChange C.before C.after C.concerns C.suspect known old new → IsMonotone C.after
         → (x : C.Item) → Contains old x → C.suspect x ≡ false → Survives C.after new x }
 {}
 
 /// The second half, and with it the whole: where the items that aren't concerned stand on, each item that
 /// stands survives, and what stands supports no further concerned item, exactly the survivors stand.
 pub fn rescue_finds_survivors<C: Change>()
-    ensures { (known old new standing : List C.Item) → ChangeLaws C.before C.after C.relevant C.suspect known old new → IsMonotone C.after
+    ensures { (known old new standing : List C.Item) → LawsOfChange C.before C.after C.concerns C.suspect known old new → IsMonotone C.after
         → IsMonotone C.before → IsRescued C.after C.suspect old new standing → HasSurvivors C.after new standing }
 {}
 

@@ -9,4 +9,4 @@ mod statements;
 mod targets;
 
 pub use grants::Granting;
-pub use statements::{edit_grant, edit_revoke};
+pub use statements::{edit_grant, edit_revoke, grant, revoke};

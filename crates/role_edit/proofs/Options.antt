@@ -12,17 +12,13 @@ use Rattle.cat_items.specs.Rights.{admin}
 use Rattle.edit_rules.specs.First.{First, Passes, IsTested, HasPassed}
 use Rattle.edit_rules.specs.Grantors.{IsGrantor}
 use Rattle.edit_rules.specs.Privileges.{no_privilege}
-use Rattle.edit_rules.proofs.FirstLaws.{first_left, first_right, passes_one, passes_that}
+use Rattle.edit_rules.proofs.FirstLaws.{passes_one, passes_that}
 use Rattle.edit_rules.proofs.Settled.{grantor_settled}
 use Rattle.role_edit.specs.GrantedRoles.{no_admin_option}
 
 -- a refusal by one test
 one_refuses : (test : Refusal → Type 0) (r : Refusal) → First (test ∷ []) r → test r
 one_refuses test r h = elim h [ inl t ↦ t | inr o ↦ absurd o.1 ]
-
--- where all tests pass, so do the later ones
-pub passes_behind : (a b : List (Refusal → Type 0)) → Passes (First (a ++ b)) → Passes (First b)
-passes_behind a b all r h = all r (first_right a b r (λ other first. all other (first_left a b other first)) h)
 
 module _ (c : List Item) (who : Who) (by : Option Grantor) (roles : List (List ℕ)) (grantor : List ℕ) (is : IsGrantor c who by grantor) where
   pub lacks_option : {T U : Type 0} (needs : List Need) (Done : T → Type 0) (Other : U → Type 0) (e : EditError) → needs ≡ map admin roles → IsTested (no_privilege c grantor needs ∷ []) Done (Err e) → IsTested (no_admin_option c who by roles ∷ []) Other (Err e)

@@ -8,4 +8,7 @@ mod names;
 mod revokes;
 mod statements;
 
+pub use creations::create_role;
+pub use grants::grant_roles;
+pub use revokes::revoke_roles;
 pub use statements::edit_role;

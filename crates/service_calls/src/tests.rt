@@ -1,4 +1,6 @@
-ghost use Rattle.std.specs.Prelude.{◌≡◌};
+mod serving;
+
+ghost use Rattle.std.specs.Prelude.{◌≡◌, [], IfOk};
 
 use cat_engine::Book;
 use cat_items::Limits;
@@ -10,9 +12,11 @@ use std::marker::Brand;
 use std::process::Abort;
 use std::sync::ledger::{Blank, Ledger};
 use std::test::Fail;
-use svc_io::{MemSink, MemSource};
+use svc_io::{MemListener, MemSink, MemSource};
 
-fn book(alloc: Global, limits: Limits) -> Result<Book, Fail> {
+fn book(alloc: Global, limits: Limits) -> Result<Book, Fail>
+    ensures { IfOk result (λ book. book.journal ≡ []) }
+{
     let alice = Name::of(alloc, b"ALICE")?.ok_or("no name")?;
     let mut users = Vec::new(alloc);
     users.push(alice)?;
@@ -117,10 +121,11 @@ fn source_of(alloc: Global, failing: u64) -> Result<MemSource, AllocError> {
 fn faults_end_a_script(rt: HostRuntime) -> Result<(), Fail> {
     let alloc = rt.alloc();
     let words = command_line(alloc, "A")?;
+    let mut listener = MemListener::new(alloc, Vec::new(alloc), Vec::new(alloc))?;
     for (take, put, room, output, status) in RUNS {
         let mut source = source_of(alloc, take)?;
         let mut sink = MemSink::new(alloc, 2, room, [put].to_vec(alloc)?)?;
-        let ended = top(alloc, &words, &mut source, &mut sink);
+        let ended = top(&rt, alloc, &words, &mut source, &mut sink, &mut listener);
         let wanted = (status, output.as_bytes());
         assert_eq!(rt; (ended, sink.bytes()), wanted, "{take} {put} {room}");
     }

@@ -61,10 +61,10 @@ number-text (w.Quoted text) is e = cc
 number-text (w.Literal text) is e = cc
 number-text (w.Symbol symbol) is e = absurd (symbol-no_number symbol e)
 
-spelled-literal : {t : List ℕ} {ws rest : List Word} → SpellsText k.Literal t ws rest → AreWords ws → IsUtf8 t
+pub spelled-literal : {t : List ℕ} {ws rest : List Word} → SpellsText k.Literal t ws rest → AreWords ws → IsUtf8 t
 spelled-literal (spells {w = word} e) are = literal-text word are.0 e
 
-spelled-number : {t : List ℕ} {ws rest : List Word} → SpellsText k.Number t ws rest → AreWords ws → IsNumber t
+pub spelled-number : {t : List ℕ} {ws rest : List Word} → SpellsText k.Number t ws rest → AreWords ws → IsNumber t
 spelled-number (spells {w = word} e) are = number-text word are.0 e
 
 pub default-form : {d : Default} {ws rest : List Word} → types.SpellsDefault d ws rest → AreWords ws → AreResolved (default_pieces (Some d))

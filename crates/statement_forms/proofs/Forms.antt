@@ -1,5 +1,5 @@
 -- A table that the words of a text create has its forms.
-use Rattle.std.proofs.Common.{◌≡◌, ◌<◌, ℕ, List, [], ◌∷◌, length, All, Ok, arith}
+use Rattle.std.proofs.Common.{◌<◌, ℕ, List, [], ◌∷◌, length, All, arith}
 use Rattle.std.proofs.lemmas.List.Elements.{All-nil, All-cons, All-append, All-contains}
 use Rattle.std.specs.List.{flat_map}
 use Rattle.sql_tree.specs.declared.statement.CreateTable.{CreateTable}
@@ -13,20 +13,19 @@ use Rattle.sql_tree.specs.declared.table.ColumnType.{ColumnType}
 use Rattle.sql_tree.specs.declared.table.TableConstraint.{TableConstraint}
 use Rattle.sql_tree.specs.declared.table.TableConstraintKind.{TableConstraintKind}
 use Rattle.sql_tree.specs.declared.table.TableElement.{TableElement}
-use Rattle.sql_words.specs.Words.{words_of}
 use Rattle.sql_words.specs.WordForms.{AreWords}
 use Rattle.sql_spelling.specs.declared.kind.Kind.TheVariants as k
 use Rattle.sql_words.specs.declared.word.Word.{Word}
-use Rattle.sql_words.proofs.ReadWords.{texts-have-words}
 use Rattle.sql_phrases.specs.NameRules.{SpellsIdentifiers}
 use Rattle.sql_phrases.specs.Shapes.{Separated, one, more, Repeated, no_more, again}
 use Rattle.sql_definitions.specs.TableRules as tables
-use Rattle.sql_grammar.specs.StatementRules.{SpellsStatement, Grammar, create_table}
+use Rattle.sql_grammar.specs.StatementRules.{SpellsStatement, create_table}
 use Rattle.cat_items.specs.Pieces.{AreResolved, IsResolved, default_pieces}
 use Rattle.table_parts.specs.declared.parts.Part.TheVariants as parts
 use Rattle.table_parts.specs.Columns.{default_in}
 use Rattle.table_parts.specs.Forms.{HasProperSort, HasProperColumns, IsProperPart, HasTableForms}
 use Rattle.table_parts.specs.Parts.{own_kind, option_parts, column_parts, element_parts, parts_in}
+use Rattle.statement_forms.specs.Written.{IsWritten}
 use Rattle.statement_forms.proofs.KeptWords.{kept_token, kept_identifier, kept_name, kept_object, kept_type, kept_constraint, kept_element}
 use Rattle.statement_forms.proofs.TypeForms.{type-form}
 use Rattle.statement_forms.proofs.DefaultForms.{default-form}
@@ -96,5 +95,5 @@ module _ {m : ℕ} where
 statement-form : {most : ℕ} {s : CreateTable} {ws rest : List Word} → SpellsStatement most (statements.CreateTable s) ws rest → AreWords ws → All IsProperPart (parts_in s.elements)
 statement-form (create_table t u o es) are = list-form es (kept_object o (kept_token u (kept_token t are)))
 
-pub table_forms : (text : List ℕ) (words : List Word) (s : CreateTable) → words_of text ≡ Ok words → Grammar words (statements.CreateTable s) → HasTableForms s.elements
-table_forms text words s is spelled part among = All-contains IsProperPart (parts_in s.elements) part (statement-form spelled (texts-have-words text words is)) among
+pub table_forms : (s : CreateTable) → IsWritten (statements.CreateTable s) → HasTableForms s.elements
+table_forms s written part among = All-contains IsProperPart (parts_in s.elements) part (statement-form written.2 written.1) among

@@ -25,7 +25,7 @@ behind [] rest are = are
 behind (w ∷ front) rest are = behind front rest are.1
 
 -- behind words in front
-kept : {c : ℕ} {ws rest : List Word} → Peak c ws rest → AreWords ws → AreWords rest
+pub kept : {c : ℕ} {ws rest : List Word} → Peak c ws rest → AreWords ws → AreWords rest
 kept {rest = rest} p are = behind p.front rest (subst AreWords p.splits are)
 
 pub kept_token : {by : Kind} {ws rest : List Word} → Token by ws rest → AreWords ws → AreWords rest

@@ -3,4 +3,4 @@
 
 mod laws;
 
-pub use laws::tables_have_their_forms;
+pub use laws::{expressions_are_formed, queries_are_formed, tables_have_their_forms};

@@ -278,7 +278,7 @@ module _ (all s t : List Item) (within : IsWithin s all) where
             is.0,
             is.1,
             routine_row_kept grantable owner actor z (ordinary_of_body z.needs z.routine z.body (derived (item.Routine z) inside)) (security_of z.body)
-                (λ need h. system_needs need (item.Routine z, within (item.Routine z) inside, (ap (λ (n : Need). n.on) is.1, h))) is.2,
+                (λ need h. system_needs need (item.Routine z, within (item.Routine z) inside, (is.1, h))) is.2,
           ),
           named (names (item.Routine z) (inl (inl (subst (λ (n : Need). IsObject n.action n.on (item.Routine z)) (sym is.1) refl)))),
         )

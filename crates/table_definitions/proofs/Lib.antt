@@ -5,6 +5,7 @@ pub mod NewNames
 pub mod ProperLists
 pub mod PutLists
 pub mod Settled
+pub mod SoundCreations
 pub mod SoundTables
 pub mod TableResults
 pub mod TestLemmas

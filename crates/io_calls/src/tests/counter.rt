@@ -43,7 +43,7 @@ impl Machine for Counter {
 
     ghost takes = { λ _ _. ⊤ };
 
-    ghost step = { λ _ log _ _. Some (length log + 1) };
+    ghost step = { λ _ log _ _ reply. reply ≡ Some (length log + 1) };
 
     ghost keeps = { λ reply. is_some reply };
 

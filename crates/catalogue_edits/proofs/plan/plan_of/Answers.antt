@@ -1,20 +1,63 @@
-use Rattle.std.proofs.Common.{ap}
-use Rattle.catalogue_edits.specs.declared.plan.Plan.{Plan}
-use Rattle.catalogue_edits.proofs.Plans.{creates, drops, grants, revokes}
+use Rattle.std.proofs.Common.{refl, subst}
+use Rattle.sql_tree.specs.declared.statement.Statement.TheVariants.{CreateSchema, CreateTable, CreateRole, DropRole, GrantPrivileges, GrantRoles, RevokePrivileges, RevokeRoles}
+use Rattle.statement_forms.specs.Written.{IsWritten}
+use Rattle.statement_forms.proofs.Forms.{table_forms}
+use Rattle.catalogue_edits.specs.Kinds.{kind_of}
+use Rattle.catalogue_edits.proofs.Plans.{planned, silently, warns_as}
 use Rattle.catalogue_edits.proofs.plan.plan_of.Goals as goal
 
-pub returns-in_ok-edit_create-in-CreateTable-clause-edit : goal.returns-in_ok-edit_create-in-CreateTable-clause-edit
-returns-in_ok-edit_create-in-CreateTable-clause-edit c =
-    creates c.args.c.now.items c.args.who.now c.args.statement.now _ _ _ c.in-CreateTable.is (ap (λ (p : Plan). p.edit) c.silent-in-CreateTable.ensures) c.in_ok-edit_create-in-CreateTable.ensures.tested
+pub create_table-requires-clause-forms : goal.create_table-requires-clause-forms
+create_table-requires-clause-forms c = table_forms c.in-CreateTable.parts (subst IsWritten c.in-CreateTable.is c.requires.written)
 
-pub returns-in_ok-edit_drop-in-DropRole-clause-edit : goal.returns-in_ok-edit_drop-in-DropRole-clause-edit
-returns-in_ok-edit_drop-in-DropRole-clause-edit c =
-    drops c.args.c.now.items c.args.who.now c.args.statement.now _ _ _ c.in-DropRole.is (ap (λ (p : Plan). p.edit) c.silent-in-DropRole.ensures) c.in_ok-edit_drop-in-DropRole.ensures.tested
+pub returns-in_ok-create_schema-in-CreateSchema-clause-planned : goal.returns-in_ok-create_schema-in-CreateSchema-clause-planned
+unfolding kind_of
+returns-in_ok-create_schema-in-CreateSchema-clause-planned c =
+    let tested = c.in_ok-create_schema-in-CreateSchema.ensures.tested in
+    silently _ (CreateSchema c.in-CreateSchema.parts) c.args.c.now.items c.args.who.now _ _ c.silent.result c.in-CreateSchema.is c.silent.ensures tested.0 tested.1 refl refl
 
-pub returns-in_ok-edit_grant-in-GrantPrivileges-clause-edit : goal.returns-in_ok-edit_grant-in-GrantPrivileges-clause-edit
-returns-in_ok-edit_grant-in-GrantPrivileges-clause-edit c =
-    grants c.args.c.now.items c.args.who.now c.args.statement.now _ _ _ c.in-GrantPrivileges.is c.granting.ensures.edit c.in_ok-edit_grant-in-GrantPrivileges.ensures.tested
+pub returns-in_ok-create_table-in-CreateTable-clause-planned : goal.returns-in_ok-create_table-in-CreateTable-clause-planned
+unfolding kind_of
+returns-in_ok-create_table-in-CreateTable-clause-planned c =
+    let tested = c.in_ok-create_table-in-CreateTable.ensures.tested in
+    silently _ (CreateTable c.in-CreateTable.parts) c.args.c.now.items c.args.who.now _ _ c.silent-in-CreateTable.result c.in-CreateTable.is c.silent-in-CreateTable.ensures tested.0 tested.1 refl refl
 
-pub returns-in_ok-edit_revoke-in-RevokePrivileges-clause-edit : goal.returns-in_ok-edit_revoke-in-RevokePrivileges-clause-edit
-returns-in_ok-edit_revoke-in-RevokePrivileges-clause-edit c =
-    revokes c.args.c.now.items c.args.who.now c.args.statement.now _ _ _ c.in-RevokePrivileges.is c.revoking-in-RevokePrivileges.ensures.edit c.in_ok-edit_revoke-in-RevokePrivileges.ensures.tested
+pub returns-in_ok-create_role-in-CreateRole-clause-planned : goal.returns-in_ok-create_role-in-CreateRole-clause-planned
+unfolding kind_of
+returns-in_ok-create_role-in-CreateRole-clause-planned c =
+    let tested = c.in_ok-create_role-in-CreateRole.ensures.tested in
+    silently _ (CreateRole c.in-CreateRole.parts) c.args.c.now.items c.args.who.now _ _ c.silent-in-CreateRole.result c.in-CreateRole.is c.silent-in-CreateRole.ensures tested.0 tested.1 refl refl
+
+pub returns-in_ok-drop_role-in-DropRole-clause-planned : goal.returns-in_ok-drop_role-in-DropRole-clause-planned
+unfolding kind_of
+returns-in_ok-drop_role-in-DropRole-clause-planned c =
+    let tested = c.in_ok-drop_role-in-DropRole.ensures.tested in
+    silently _ (DropRole c.in-DropRole.role) c.args.c.now.items c.args.who.now _ _ c.silent-in-DropRole.result c.in-DropRole.is c.silent-in-DropRole.ensures tested.0 tested.1 refl refl
+
+pub returns-in_ok-grant_roles-in-GrantRoles-clause-planned : goal.returns-in_ok-grant_roles-in-GrantRoles-clause-planned
+unfolding kind_of
+returns-in_ok-grant_roles-in-GrantRoles-clause-planned c =
+    let tested = c.in_ok-grant_roles-in-GrantRoles.ensures.tested in
+    silently _ (GrantRoles c.in-GrantRoles.parts) c.args.c.now.items c.args.who.now _ _ c.silent-in-GrantRoles.result c.in-GrantRoles.is c.silent-in-GrantRoles.ensures tested.0 tested.1 refl refl
+
+pub returns-in_ok-revoke_roles-in-RevokeRoles-clause-planned : goal.returns-in_ok-revoke_roles-in-RevokeRoles-clause-planned
+unfolding kind_of
+returns-in_ok-revoke_roles-in-RevokeRoles-clause-planned c =
+    let tested = c.in_ok-revoke_roles-in-RevokeRoles.ensures.tested in
+    let plan = c.revoking.ensures in
+    planned _ (RevokeRoles c.in-RevokeRoles.parts) c.args.c.now.items c.args.who.now _ c.revoking.result c.in-RevokeRoles.is plan.edit tested.0 tested.1 plan.warning plan.restrict
+
+pub returns-in_ok-revoke-in-RevokePrivileges-clause-planned : goal.returns-in_ok-revoke-in-RevokePrivileges-clause-planned
+unfolding kind_of
+returns-in_ok-revoke-in-RevokePrivileges-clause-planned c =
+    let tested = c.in_ok-revoke-in-RevokePrivileges.ensures.tested in
+    let plan = c.revoking-in-RevokePrivileges.ensures in
+    planned _ (RevokePrivileges c.in-RevokePrivileges.parts) c.args.c.now.items c.args.who.now _ c.revoking-in-RevokePrivileges.result c.in-RevokePrivileges.is plan.edit tested.0 tested.1 plan.warning plan.restrict
+
+pub returns-in_ok-grant-in-GrantPrivileges-clause-planned : goal.returns-in_ok-grant-in-GrantPrivileges-clause-planned
+unfolding kind_of
+returns-in_ok-grant-in-GrantPrivileges-clause-planned c =
+    let tested = c.in_ok-grant-in-GrantPrivileges.ensures.tested in
+    let plan = c.granting.ensures in
+    let by = tested.1.2 in
+    planned _ (GrantPrivileges c.in-GrantPrivileges.parts) c.args.c.now.items c.args.who.now _ c.granting.result c.in-GrantPrivileges.is plan.edit tested.0 (tested.1.0, tested.1.1, by.edit)
+    (tested.1.0, tested.1.1, warns_as _ _ _ c.granting.result.warning by.partial.0 by.partial.1 plan.warning) plan.restrict

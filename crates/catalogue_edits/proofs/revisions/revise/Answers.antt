@@ -8,13 +8,13 @@ pub returns-in_err-new-clause-tested : goal.returns-in_err-new-clause-tested
 returns-in_err-new-clause-tested c =
     let old = c.args.c.now.items in
     let edit = c.in_ok-plan.plan.edit in
-    outcome_exit c.args.limits.now old c.args.who.now c.args.statement.now edit c.restricted.result (λ (n : Listing). IsNew old edit n.items) _ _ c.in_err-new.field-0.0 c.from_residual-in_err-new.result
-    refl c.from_residual-in_err-new.ensures.1 c.restricted.ensures c.in_ok-plan.ensures.edit.0 c.in_ok-plan.ensures.edit.1 c.in_err-new.ensures
+    outcome_exit c.args.limits.now old c.args.who.now c.args.statement.now edit c.in_ok-plan.plan.restrict (λ (n : Listing). IsNew old edit n.items) _ _ c.in_err-new.field-0.0 c.from_residual-in_err-new.result
+    refl c.from_residual-in_err-new.ensures.1 c.in_ok-plan.ensures.planned.1.restrict c.in_ok-plan.ensures.planned.0 c.in_ok-plan.ensures.planned.1.edit c.in_err-new.ensures
 
 pub returns-clause-tested : goal.returns-clause-tested
 returns-clause-tested c =
-    revised c.args.limits.now c.args.c.now.items c.args.who.now c.args.statement.now c.in_ok-plan.plan.edit c.restricted.result c.in_ok-plan.plan.warning c.in_ok-new.new.items c.restricted.ensures
-    c.in_ok-plan.ensures.edit.0 c.in_ok-plan.ensures.edit.1 c.in_ok-plan.ensures.warning c.in_ok-new.ensures.0 c.in_ok-new.ensures.1
+    revised c.args.limits.now c.args.c.now.items c.args.who.now c.args.statement.now c.in_ok-plan.plan.edit c.in_ok-plan.plan.restrict c.in_ok-plan.plan.warning c.in_ok-new.new.items c.in_ok-plan.ensures.planned.1.restrict
+    c.in_ok-plan.ensures.planned.0 c.in_ok-plan.ensures.planned.1.edit c.in_ok-plan.ensures.planned.1.warning c.in_ok-new.ensures.0 c.in_ok-new.ensures.1
 
 pub returns-clause-good : goal.returns-clause-good
 returns-clause-good c = good_again c.args.c.now.items c.in_ok-plan.plan.edit c.in_ok-new.new.items c.in_ok-plan.ensures.sound c.in_ok-new.ensures.1

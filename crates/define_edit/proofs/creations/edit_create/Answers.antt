@@ -1,8 +1,13 @@
 use Rattle.std.proofs.Common.{sym, subst}
 use Rattle.sql_tree.specs.declared.statement.Statement.{Statement}
 use Rattle.edit_rules.specs.First.{IsTested}
+use Rattle.statement_forms.specs.Written.{IsWritten}
+use Rattle.statement_forms.proofs.Forms.{table_forms}
 use Rattle.define_edit.specs.Creations.{IsCreation, creation_refusals}
 use Rattle.define_edit.proofs.creations.edit_create.Goals as goal
+
+pub create_table-requires-clause-forms : goal.create_table-requires-clause-forms
+create_table-requires-clause-forms c = table_forms c.in-CreateTable.parts (subst IsWritten c.in-CreateTable.is c.requires.written)
 
 pub returns-in-CreateSchema-clause-tested : goal.returns-in-CreateSchema-clause-tested
 returns-in-CreateSchema-clause-tested c = subst (λ (s : Statement). IsTested (creation_refusals c.args.c.now.items c.args.who.now s) (IsCreation c.args.c.now.items c.args.who.now s) c.create_schema.result) (sym c.in-CreateSchema.is) c.create_schema.ensures.tested

@@ -1,9 +1,8 @@
 use Rattle.std.proofs.Common.{[], ◌∷◌, refl}
 use Rattle.cat_items.specs.declared.edit.Refusal.TheVariants.{RoleCycle}
-use Rattle.edit_rules.proofs.FirstLaws.{passes_first}
+use Rattle.edit_rules.proofs.FirstLaws.{passes_behind, passes_first}
 use Rattle.role_edit.specs.GrantedRoles.{role_name_refusals, role_cycle, no_admin_option}
 use Rattle.role_edit.proofs.Granting.{sound_of_granting}
-use Rattle.role_edit.proofs.Options.{passes_behind}
 use Rattle.role_edit.proofs.grants.grant_roles.Goals as goal
 
 pub returns-clause-sound : goal.returns-clause-sound

@@ -8,14 +8,15 @@ use Rattle.cat_engine.proofs.book.Book.answer.Goals as goal
 pub invariant_of-self-2 : goal.invariant_of-self-2
 invariant_of-self-2 c =
     let entry : Entry = record { session = c.args.session; text = c.args.text.now } in
-    let old : State = record { content = c.self.inside.environment; journal = c.self.inside.journal.items; limits = c.self.inside.limits } in
-    let new : State = record { content = c.answer.new.self; journal = c.enter.new.journal.items; limits = c.self.inside.limits } in
+    let old : State = record { users = c.self.inside.users.value.items; content = c.self.inside.environment; journal = c.self.inside.journal.items; limits = c.self.inside.limits } in
+    let new : State = record { users = c.self.inside.users.value.items; content = c.answer.new.self; journal = c.enter.new.journal.items; limits = c.self.inside.limits } in
     let longer : c.enter.new.journal.items ≡ c.self.inside.journal.items ++ entry ∷ [] = rw (c.in_ok-reserve.ensures.items, c.in_ok-of.ensures) at c.enter.ensures in
     let entered : IsEntered old c.args.session c.args.text.now c.in_ok-reply.reply new = record {
       room = rw (← c.self.view_is) at c.requires.room;
       answers = c.in_ok-reply.ensures.ok;
       journal = longer;
       limits = refl;
+      users = refl;
     } in
     let more = bytes_held-more c.self.inside.journal.items entry in
     let held = ap bytes_held longer in

@@ -1,18 +1,18 @@
 use Rattle.std.proofs.Common.{sym, subst}
 use Rattle.cat_engine.specs.Steps.{Answers}
 use Rattle.cat_engine.specs.declared.reply.Reply.{Reply}
-use Rattle.cat_engine.proofs.Answering.{answer_refused, answer_done, forms}
+use Rattle.cat_engine.proofs.Answering.{answer_refused, answer_done, written}
 use Rattle.cat_engine.proofs.environment.Environment.answer.Goals as goal
 
-pub execute-requires-clause-forms : goal.execute-requires-clause-forms
-execute-requires-clause-forms c = forms c.args.text.now c.in-Ok.statement c.in-Ok.ensures.1
+pub execute-requires-clause-written : goal.execute-requires-clause-written
+execute-requires-clause-written c = written c.args.text.now c.in-Ok.statement c.in-Ok.ensures.1
 
 pub returns-in-Ok-execute-clause-ok : goal.returns-in-Ok-execute-clause-ok
 returns-in-Ok-execute-clause-ok c =
     let old = c.args.self.now in
     let new = c.execute.new.self in
-    subst (λ (reply : Reply). Answers c.args.limits.now c.args.number old c.args.text.now reply new) (sym c.success.ensures)
-    (answer_done c.args.limits.now c.args.number old new c.args.text.now c.in-Ok.statement c.in-Ok-execute.warning c.in-Ok.ensures.0 c.in-Ok.ensures.1 c.in-Ok-execute.ensures.0 c.in-Ok-execute.ensures.1)
+    subst (λ (reply : Reply). Answers c.args.limits.now c.args.number old c.args.text.now reply new) (sym c.reply_of.ensures)
+    (answer_done c.args.limits.now c.args.number old new c.args.text.now c.in-Ok.statement c.in-Ok-execute.outcome c.in-Ok.ensures.0 c.in-Ok.ensures.1 c.in-Ok-execute.ensures.0 c.in-Ok-execute.ensures.1)
 
 pub returns-in-Err-Refused-execute-clause-ok : goal.returns-in-Err-Refused-execute-clause-ok
 returns-in-Err-Refused-execute-clause-ok c =

@@ -1,4 +1,4 @@
-use Rattle.std.proofs.Common.{◌≡◌, ◌∙◌, None, ℕ, List, [], ◌∷◌, sym, subst}
+use Rattle.std.proofs.Common.{◌≡◌, ◌∙◌, None, ℕ, List, [], ◌∷◌, refl, sym, subst}
 use Rattle.edit_rules.specs.First.{First, Passes}
 use Rattle.cat_engine.specs.ConnectionRefusals.{connection_in_use, unknown_user}
 use Rattle.cat_engine.specs.Contents.{Content}
@@ -27,7 +27,8 @@ returns c =
     let before : Content = record { catalogue = c.self.inside.catalogue.items; sessions = c.self.inside.sessions } in
     let after : Content = record { catalogue = c.self.inside.catalogue.items; sessions = c.connect.new.self } in
     let done = connect_done before c.args.number c.args.parts c.match-connection.name c.connect.new.self named (sym c.has.ensures ∙ c.if-has.false) (so _ _ c.is_user.ensures c.if-not-is_user.false) then_made in
-    subst
+    let whole = subst
     (λ (old : Content). Passes (First (connection_in_use old.sessions c.args.number (connection_name c.args.parts) ∷ unknown_user old.catalogue c.args.parts.user ∷ []))
     × ChangesSession c.args.number (λ s. connected s (connection_of c.args.parts)) old after)
-    c.self.view_is done
+    c.self.view_is done in
+    (whole.0, (whole.1, refl))

@@ -1,0 +1,9 @@
+pub mod CloseLocal
+pub mod ConcernsWithin
+pub mod Gathers
+pub mod Kept
+pub mod Least
+pub mod Outcome
+pub mod Spread
+pub mod Stable
+pub mod TopicsStable

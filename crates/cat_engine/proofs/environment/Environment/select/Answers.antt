@@ -1,0 +1,6 @@
+use Rattle.std.proofs.Common.{sym}
+use Rattle.cat_engine.proofs.Answering.{answered}
+use Rattle.cat_engine.proofs.environment.Environment.select.Goals as goal
+
+pub returns-in-Ok : goal.returns-in-Ok
+returns-in-Ok c = rw (← c.self.view_is) (answered c.args.number _ c.in-Some.who.now c.args.query.now c.in-Ok.rows (sym c.in-Some.ensures) c.in-Ok.ensures.0 c.in-Ok.ensures.1)

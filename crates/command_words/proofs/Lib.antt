@@ -1,0 +1,4 @@
+mod Numbers
+mod Program
+mod Simple
+mod Values

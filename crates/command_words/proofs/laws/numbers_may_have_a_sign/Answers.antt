@@ -1,0 +1,7 @@
+use Rattle.std.proofs.Common.{refl}
+use Rattle.clap.proofs.OnLiterals.{clap_on_literals}
+use Rattle.command_words.proofs.laws.numbers_may_have_a_sign.Goals as goal
+
+pub returns : goal.returns
+unfolding clap_on_literals
+returns c = record { port = refl; default = refl }

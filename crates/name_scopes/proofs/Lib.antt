@@ -1,0 +1,4 @@
+pub mod PositionNames
+pub mod Seeks
+pub mod Tails
+pub mod Turns

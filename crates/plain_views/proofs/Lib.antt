@@ -1,0 +1,4 @@
+pub mod AloneEquations
+pub mod BaseEquations
+pub mod Columns
+pub mod Plainness

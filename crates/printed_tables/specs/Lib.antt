@@ -1,0 +1,2 @@
+pub mod TableTexts
+pub mod Written

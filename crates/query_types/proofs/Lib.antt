@@ -1,0 +1,2 @@
+pub mod GroupingEquations
+pub mod TypesEquations

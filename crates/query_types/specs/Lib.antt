@@ -1,0 +1,4 @@
+pub mod Aggregates
+pub mod Grouping
+pub mod Types
+pub mod Whole

@@ -1,0 +1,10 @@
+pub mod Columns
+pub mod Everies
+pub mod GroupEquations
+pub mod Grouped
+pub mod Kept
+pub mod NameEquations
+pub mod Outcomes
+pub mod PieceEquations
+pub mod Resolved
+pub mod Singles

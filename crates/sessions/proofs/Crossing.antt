@@ -1,0 +1,29 @@
+-- A book may go to other threads. Its parts come first, each by itself, since one search for all of them gives up.
+use denote.Param.Send.{IsSend, sendable}
+use Rattle.std.proofs.Crossing.{crosses, frees}
+use Rattle.std.proofs.MapsCrossing as maps
+use Rattle.cat_items.proofs.Sends.{item_send}
+use Rattle.cat_items.specs.contracts.catalogue.Catalogue as Catalogue
+use Rattle.cat_engine.specs.contracts.session.Session as Session
+use Rattle.cat_engine.specs.contracts.sessions.Sessions as Sessions
+use Rattle.cat_engine.specs.contracts.journal.Entry as Entry
+use Rattle.cat_engine.specs.contracts.environment.Environment as Environment
+use Rattle.cat_engine.specs.contracts.book.Book as Book
+
+catalogue_send : IsSend Catalogue.the_row
+catalogue_send = search (item_send, crosses, frees, sendable) depth 30 fits 100000
+
+session_send : IsSend Session.the_row
+session_send = search (crosses, frees, sendable) depth 30 fits 100000
+
+sessions_send : IsSend Sessions.the_row
+sessions_send = search (session_send, maps.crosses, crosses, frees, sendable) depth 30 fits 100000
+
+entry_send : IsSend Entry.the_row
+entry_send = search (crosses, frees, sendable) depth 30 fits 100000
+
+environment_send : IsSend Environment.the_row
+environment_send = search (catalogue_send, sessions_send, sendable) depth 30 fits 100000
+
+pub book_send : IsSend Book.the_row
+book_send = search (environment_send, entry_send, crosses, frees, sendable) depth 30 fits 100000

@@ -1,0 +1,12 @@
+pub mod Accepting
+pub mod CallLaws
+pub mod Complete
+pub mod Crossing
+pub mod Ending
+pub mod Paths
+pub mod Pieces
+pub mod Quoted
+pub mod Returning
+pub mod RunLaws
+pub mod Taking
+pub mod Whole

@@ -1,0 +1,6 @@
+pub mod Faces
+pub mod FixedNames
+pub mod Looks
+pub mod Reads
+pub mod RightsOn
+pub mod Viewers

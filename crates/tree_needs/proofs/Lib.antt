@@ -1,0 +1,5 @@
+pub mod MentionEquations
+pub mod NeedKeys
+pub mod NeedMembers
+pub mod NeedOrder
+pub mod Outside

@@ -1,0 +1,3 @@
+pub mod Described
+pub mod Ranges
+pub mod Sorts
