@@ -7,4 +7,4 @@ mod refusals;
 
 pub use given::is_known_column;
 pub use named::{NamedConstraint, given_names, name_constraints};
-pub use refusals::test_names;
+pub use refusals::{test_names, test_new_constraints, test_repeated};

@@ -25,8 +25,9 @@ fn told(made: &Object, mark: &Mark) -> Result<Path, AllocError>
     }
 }
 
-/// Refuses what comes twice, first in reading order.
-fn test_repeated(alloc: Global, made: &Object, parts: &Items<Part>) -> Result<(), EditError>
+/// Refuses what comes twice in a statement (SQL:2003 part 2, 11.3 and 11.6): `Repeated` of its name, the first by its second place, and
+/// of a second PRIMARY KEY the path of the table. `Memory` is want of memory.
+pub fn test_repeated(alloc: Global, made: &Object, parts: &Items<Part>) -> Result<(), EditError>
     ensures tested { HasPassed (spec.repeated_name made.now parts.now ∷ []) result }
     ensures differ { OnOk result (MarksDiffer (marks_in parts.now)) }
 {
@@ -51,8 +52,13 @@ fn test_constraint(c: &Catalogue, schema: &Name, name: &Name) -> Result<(), Edit
     test_new_constraint(c, &name)
 }
 
-/// Refuses the first of these names that a constraint of the schema has.
-fn test_constraints(c: &Catalogue, schema: &Name, names: &Items<Name>) -> Result<(), EditError>
+/// Refuses the first of these names that a constraint of the schema has (SQL:2003 part 2, 10.8): `NameExists` of the schema and the name.
+/// `Memory` is want of memory.
+pub fn test_new_constraints(
+    c: &Catalogue,
+    schema: &Name,
+    names: &Items<Name>,
+) -> Result<(), EditError>
     ensures { HasPassed (map (spec.exists_in c.now.items schema.now) names.now) result }
 {
     for name in names.as_slice() {
@@ -72,7 +78,7 @@ fn test_taken(
 {
     test_new_table(c, made)?;
     let names = named::given_names(alloc, parts)?;
-    test_constraints(c, &made.schema, &names)
+    test_new_constraints(c, &made.schema, &names)
 }
 
 /// Refuses CREATE TABLE (SQL:2003 part 2, 11.3) by its names and its schema's owner, in this order: `Repeated` where one comes twice,

@@ -1,6 +1,6 @@
 use Rattle.edit_rules.proofs.TestLists.{each_exit_at, each_next, each_pass_all}
 use Rattle.table_names.specs.Refusals.{exists_in}
-use Rattle.table_names.proofs.refusals.test_constraints.Goals as goal
+use Rattle.table_names.proofs.refusals.test_new_constraints.Goals as goal
 
 pub returns-in_err-test_constraint : goal.returns-in_err-test_constraint
 returns-in_err-test_constraint c =

@@ -1,0 +1,4 @@
+pub mod FoundLemmas
+pub mod MadeChecks
+pub mod SoundDomains
+pub mod WrittenDomains

@@ -1,0 +1,156 @@
+-- A domain is made soundly with its checks.
+use Rattle.std.proofs.Common.{◌≡◌, ◌≢◌, ℕ, List, Some, Ok, ap, sym, subst, ◌∙◌, inl, inr, arith}
+use Rattle.std.specs.List.{Contains}
+use Rattle.finite_chains.proofs.Members.{Contains-nil}
+use Rattle.sql_names.specs.declared.object.Object.{Object}
+use Rattle.sql_names.specs.declared.sort.SqlType.{SqlType}
+use Rattle.sql_tree.specs.declared.expr.Expr.{Expr}
+use Rattle.sql_tree.specs.declared.table.TableConstraintKind.{TableConstraintKind}
+use Rattle.sql_tree.specs.declared.table.TableConstraintKind.TheVariants as kinds
+use Rattle.cat_items.specs.declared.edit.Edit.{Edit}
+use Rattle.cat_items.specs.declared.edit.Who.{Who}
+use Rattle.cat_items.specs.declared.item.Domain.{Domain}
+use Rattle.cat_items.specs.declared.item.DomainCheck.{DomainCheck}
+use Rattle.cat_items.specs.declared.item.Item.{Item}
+use Rattle.cat_items.specs.declared.item.Item.TheVariants as item
+use Rattle.cat_items.specs.declared.need.Need.{Need}
+use Rattle.cat_items.specs.Catalogues.{IsInOrder}
+use Rattle.cat_items.specs.Good.{IsGood}
+use Rattle.cat_items.specs.Needs.{AreNeeds, NeededByCondition}
+use Rattle.cat_items.specs.Order.{need_cmp}
+use Rattle.cat_items.specs.Pieces.{AreFormed, AreResolved, IsType, default_pieces, expr_pieces}
+use Rattle.cat_items.specs.Reach.{Has}
+use Rattle.cat_items.specs.Rights.{path_of, IsDomain}
+use Rattle.cat_items.specs.Shape.{NameSet, name_of}
+use Rattle.cat_items.proofs.OrderLemmas.{need_cmp-total}
+use Rattle.finite_chains.proofs.StrictOrders.{IsRising-from_pairs, rising_same}
+use Rattle.name_scopes.specs.Outcomes.{Outcome}
+use Rattle.query_types.specs.declared.whole.TypedExpr.{TypedExpr}
+use Rattle.edit_rules.specs.Chosen.{IsAdding}
+use Rattle.edit_rules.specs.Names.{IsConstraint}
+use Rattle.edit_laws.specs.Forms.{HasForm, HasFreeName}
+use Rattle.edit_laws.specs.Proper.{IsProperItem, IsProperBeside}
+use Rattle.edit_laws.specs.Sound.{IsSound}
+use Rattle.edit_laws.proofs.FormLaws.{number_in, path_in, same_object, sound_form}
+use Rattle.table_names.specs.declared.named.NamedConstraint.{NamedConstraint}
+use Rattle.table_names.specs.Named.{HaveOwnNames}
+use Rattle.table_keys.specs.Keys.{beside}
+use Rattle.table_definitions.proofs.ListMembers.{contains_from_any, one_of_pairs}
+use Rattle.edit_conditions.specs.Conditions.{outcome_in}
+use Rattle.edit_conditions.proofs.Found.{condition_resolved}
+use Rattle.domain_edits.specs.Checks.{IsCheckMade, IsCheckOf, check_scope}
+use Rattle.domain_edits.specs.CreatedDomains.{IsDomainMade}
+
+-- what occurs settles the sorted list of needs
+needs_settled : (occurs : Need → Type 0) (a b : List Need) → AreNeeds a occurs → AreNeeds b occurs → a ≡ b
+needs_settled occurs a b p q =
+    rising_same need_cmp need_cmp-total a b (IsRising-from_pairs need_cmp a p.order) (IsRising-from_pairs need_cmp b q.order)
+    (λ n. ((λ h. (q.members n).1 ((p.members n).0 h)), (λ h. (p.members n).1 ((q.members n).0 h))))
+
+typed_is : (a b : TypedExpr) → ◌≡◌ {A = Outcome TypedExpr} (Ok a) (Ok b) → a ≡ b
+typed_is a b e = cc
+
+same_written : (k : TableConstraintKind) (a b : Expr) → k ≡ kinds.Check a → k ≡ kinds.Check b → a ≡ b
+same_written k a b p q = let both : kinds.Check a ≡ kinds.Check b = sym p ∙ q in cc
+
+-- ---- an edit that only adds
+
+module _ (c : List Item) (P : Item → Type 0) (edit : Edit) (good : IsGood c) (is : IsAdding P edit) where
+  none_taken : (x : Item) → Contains edit.target x → ⊥
+  none_taken x h = Contains-nil x (subst (λ l. Contains l x) is.target h)
+
+  none_changed : (x : Item) → Contains edit.changed x → ⊥
+  none_changed x h = Contains-nil x (subst (λ l. Contains l x) is.changed h)
+
+  pub sound_adding : ((x y : Item) (name : NameSet × List (List ℕ)) → P x → P y → name_of x ≡ Some name → name_of y ≡ Some name → x ≡ y) → ((x : Item) → P x → HasFreeName c x) → ((x : Item) → P x → IsProperItem x)
+      → ((x : Item) → P x → IsProperBeside c edit x) → IsSound c edit
+  sound_adding differ free items beside_it = sound_form c edit good (record {
+    target_order = subst IsInOrder (sym is.target) (λ i j d low high. absurd (omega (arith, high)));
+    target = λ x h. absurd (none_taken x h);
+    changed_order = subst IsInOrder (sym is.changed) (λ i j d low high. absurd (omega (arith, high)));
+    changed = λ x h. absurd (none_changed x h);
+    added_order = is.added.order;
+    apart = λ x h. absurd (none_changed x h);
+    gone = λ edited of x h. absurd (none_taken x h);
+    differ = λ x y n h k nx ny. differ x y n ((is.added.members x).0 h) ((is.added.members y).0 k) nx ny;
+    own_names = λ x h. inl (free x ((is.added.members x).0 h));
+    items = λ x h. items x ((is.added.members x).0 h);
+    beside = λ x h. beside_it x ((is.added.members x).0 h);
+    views = λ x t. absurd (elim t [ inl h ↦ none_taken (item.Column x) h | inr h ↦ none_changed (item.Column x) h ]);
+  })
+
+-- ---- checks
+
+-- constraints of one name are one
+one_named : (named : List NamedConstraint) → HaveOwnNames named → (n m : NamedConstraint) → Contains named n → Contains named m → n.name ≡ m.name → n ≡ m
+one_named named own n m h k e = one_of_pairs (λ (a b : NamedConstraint). a.name ≢ b.name) named own n m h k (λ apart. apart e) (λ apart. apart (sym e))
+
+module _ (c : List Item) (who : Who) (sort : SqlType) (domain : Object) where
+  one_of : (n m : NamedConstraint) (x y : DomainCheck) → n ≡ m → IsCheckOf c who sort domain x n → IsCheckOf c who sort domain y m → x ≡ y
+  one_of n m x y same p q =
+      let written : p.written ≡ q.written = same_written m.kind p.written q.written (ap (λ (z : NamedConstraint). z.kind) (sym same) ∙ p.kind) q.kind in
+      let typed : p.typed ≡ q.typed = typed_is p.typed q.typed (sym p.resolved ∙ ap (outcome_in c (check_scope who.schema sort)) written ∙ q.resolved) in
+      let names : x.name ≡ y.name = p.called ∙ ap (λ (z : NamedConstraint). beside domain z.name) same ∙ sym q.called in
+      let domains : x.domain ≡ y.domain = p.domain_is ∙ sym q.domain_is in
+      let trees : x.cond ≡ y.cond = p.condition_is ∙ ap (λ (t : TypedExpr). t.expr) typed ∙ sym q.condition_is in
+      let needs : x.needs ≡ y.needs = needs_settled (NeededByCondition q.typed.expr) x.needs y.needs (subst (λ (t : TypedExpr). AreNeeds x.needs (NeededByCondition t.expr)) typed p.needs) q.needs in
+      λ i. record { name = names i; domain = domains i; cond = trees i; needs = needs i }
+
+  one_check : (named : List NamedConstraint) → HaveOwnNames named → (x y : DomainCheck) → IsCheckMade c who sort domain named x → IsCheckMade c who sort domain named y → x.name ≡ y.name → x ≡ y
+  one_check named own x y p q e =
+      let n = contains_from_any (IsCheckOf c who sort domain x) named p in
+      let m = contains_from_any (IsCheckOf c who sort domain y) named q in
+      let called : beside domain n.0.name ≡ beside domain m.0.name = sym n.2.called ∙ e ∙ m.2.called in
+      one_of n.0 m.0 x y (one_named named own n.0 m.0 n.1 m.1 (ap (λ (o : Object). o.name) called)) n.2 m.2
+
+-- what the tests, the grammar and resolution give of the checks
+pub record AreFormedChecks (c : List Item) (domain : Object) (named : List NamedConstraint) : Type 0 where
+  pub own : HaveOwnNames named
+  pub free : (n : NamedConstraint) → Contains named n → ¬ (Has c (IsConstraint (beside domain n.name)))
+  pub formed : (n : NamedConstraint) (e : Expr) → Contains named n → n.kind ≡ kinds.Check e → AreFormed (expr_pieces e)
+
+-- ---- CREATE DOMAIN
+
+module _ (c : List Item) (who : Who) (d : Domain) (named : List NamedConstraint) (edit : Edit) (good : IsGood c) (new : ¬ (Has c (IsDomain (path_of d.domain))))
+    (types : IsType d.sort × AreResolved (default_pieces d.default)) (formed : AreFormedChecks c d.domain named) (is : IsAdding (IsDomainMade c who d named) edit) where
+  free_check : (x : DomainCheck) → IsCheckMade c who d.sort d.domain named x → HasFreeName c (item.DomainCheck x)
+  free_check x p =
+      let n = contains_from_any (IsCheckOf c who d.sort d.domain x) named p in
+      subst (λ (o : Object). ¬ (Has c (IsConstraint o))) (sym n.2.called) (formed.free n.0 n.1)
+
+  proper_check : (x : DomainCheck) → IsCheckMade c who d.sort d.domain named x → IsProperItem (item.DomainCheck x)
+  proper_check x p =
+      let n = contains_from_any (IsCheckOf c who d.sort d.domain x) named p in
+      let tree = condition_resolved c (check_scope who.schema d.sort) n.2.written n.2.typed good (formed.formed n.0 n.2.written n.1 n.2.kind) n.2.resolved in record {
+        allowed = tt;
+        derived = subst (λ (e : Expr). AreNeeds x.needs (NeededByCondition e)) (sym n.2.condition_is) n.2.needs;
+        lists = tt;
+        trees = subst (λ (e : Expr). AreResolved (expr_pieces e)) (sym n.2.condition_is) tree;
+      }
+
+  one_made : (x y : Item) (n : NameSet × List (List ℕ)) → IsDomainMade c who d named x → IsDomainMade c who d named y → name_of x ≡ Some n → name_of y ≡ Some n → x ≡ y
+  one_made (item.Domain x) (item.Domain y) n p q nx ny = ap item.Domain (p ∙ sym q)
+  one_made (item.DomainCheck x) (item.DomainCheck y) n p q nx ny = ap item.DomainCheck (one_check c who d.sort d.domain named formed.own x y p q (same_object x.name y.name (ap path_in (nx ∙ sym ny))))
+  one_made (item.Domain x) (item.DomainCheck y) n p q nx ny = absurd (let odd : 5 ≡ 4 = ap number_in (nx ∙ sym ny) in omega (arith, odd))
+  one_made (item.DomainCheck x) (item.Domain y) n p q nx ny = absurd (let odd : 4 ≡ 5 = ap number_in (nx ∙ sym ny) in omega (arith, odd))
+  one_made x (item.Domain y) n p q nx ny = absurd p
+  one_made x (item.DomainCheck y) n p q nx ny = absurd p
+  one_made x y n p q nx ny = absurd q
+
+  free_made : (x : Item) → IsDomainMade c who d named x → HasFreeName c x
+  free_made (item.Domain x) p = subst (λ (z : Domain). ¬ (Has c (IsDomain (path_of z.domain)))) (sym p) new
+  free_made (item.DomainCheck x) p = free_check x p
+  free_made x p = absurd p
+
+  proper_made : (x : Item) → IsDomainMade c who d named x → IsProperItem x
+  proper_made (item.Domain x) p = record { allowed = tt; derived = tt; lists = tt; trees = subst (λ (z : Domain). IsType z.sort × AreResolved (default_pieces z.default)) (sym p) types }
+  proper_made (item.DomainCheck x) p = proper_check x p
+  proper_made x p = absurd p
+
+  beside_made : (x : Item) → IsDomainMade c who d named x → IsProperBeside c edit x
+  beside_made (item.Domain x) p = λ old h e. absurd (new (item.Domain old, h, ap (λ (z : Domain). path_of z.domain) (sym p) ∙ ap path_of (sym e)))
+  beside_made (item.DomainCheck x) p = tt
+  beside_made x p = absurd p
+
+  pub sound_domain : IsSound c edit
+  sound_domain = sound_adding c (IsDomainMade c who d named) edit good is one_made free_made proper_made beside_made

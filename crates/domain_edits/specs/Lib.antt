@@ -1,0 +1,4 @@
+pub mod Checks
+pub mod CreatedDomains
+pub mod Found
+pub mod Made

@@ -1,0 +1,7 @@
+//! Domains: CREATE DOMAIN, as the edit that it makes of a catalogue.
+#![tactic(auto)]
+
+mod checks;
+mod creating;
+
+pub use creating::create_domain;
