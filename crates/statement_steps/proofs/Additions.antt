@@ -14,7 +14,7 @@ use Rattle.cat_items.specs.Order.{need_cmp}
 use Rattle.cat_items.specs.Shape.{NameSet, name_of}
 use Rattle.cat_items.proofs.OrderLemmas.{need_cmp-total}
 use Rattle.edit_rules.specs.Chosen.{AreChosen}
-use Rattle.edit_laws.specs.Forms.{HasForm, HasFreeName}
+use Rattle.edit_laws.specs.Forms.{HasFreeName}
 use Rattle.edit_laws.specs.Proper.{IsProperBeside, IsProperItem}
 use Rattle.edit_laws.specs.Sound.{IsSound}
 use Rattle.edit_laws.specs.Users.{LeavesUsers}

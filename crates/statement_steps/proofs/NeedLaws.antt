@@ -14,7 +14,6 @@ use Rattle.cat_items.specs.declared.item.Item.TheVariants as item
 use Rattle.cat_items.specs.declared.need.Auth.TheVariants.{Named}
 use Rattle.cat_items.specs.declared.need.Need.{Need}
 use Rattle.cat_items.specs.Catalogues.{IsInOrder, OwnsSchema}
-use Rattle.cat_items.specs.Reach.{Has}
 use Rattle.cat_items.specs.Rights.{Met, MeetsAll}
 use Rattle.edit_rules.specs.First.{First, HasPassed, Passes}
 use Rattle.edit_rules.specs.Owners.{not_owner}

@@ -1,9 +1,9 @@
 -- A statement has one refusal at most, and one edit, where that holds of its steps.
-use Rattle.std.proofs.Common.{◌≡◌, List, [], ◌∷◌, ◌++◌, ap, sym, ◌∙◌}
+use Rattle.std.proofs.Common.{◌≡◌, List, [], ◌∷◌, ap, sym, ◌∙◌}
 use Rattle.std.specs.List.{Contains}
 use Rattle.name_scopes.specs.declared.error.ResolveError.TheVariants as errors
 use Rattle.name_scopes.specs.Outcomes.{Outcome}
-use Rattle.std.specs.declared.result.Result.TheVariants.{Ok, Err}
+use Rattle.std.specs.declared.result.Result.TheVariants.{Err}
 use Rattle.cat_items.specs.declared.edit.Edit.{Edit}
 use Rattle.cat_items.specs.declared.edit.Refusal.{Refusal}
 use Rattle.cat_items.specs.declared.edit.Refusal.TheVariants.{NoPrivilege}
@@ -32,8 +32,10 @@ module _ (c : List Item) (who : Who) (s : Steps) where
 
   pub steps_settled : AreSettled s.by_tree → AreSettled s.names → AreSettled s.taken → AreSettled s.rules → AreSettled (refusals_of c who s)
   steps_settled tree names taken rules =
-      settled_append s.by_tree _ tree (settled_append s.names _ names ((λ a b p q. p.1 ∙ sym q.1),
-      settled_append s.taken _ taken (settled_append s.rules (no_least_privilege c s.schema s.needs ∷ []) rules (lacks_settled, tt))))
+      settled_append s.by_tree _ tree (settled_append s.names _ names (
+        (λ a b p q. p.1 ∙ sym q.1),
+        settled_append s.taken _ taken (settled_append s.rules (no_least_privilege c s.schema s.needs ∷ []) rules (lacks_settled, tt)),
+      ))
 
 -- what is so settles the list of it
 all_settled : (P : Item → Type 0) (a b : List Item) → AreAll P a → AreAll P b → a ≡ b

@@ -13,7 +13,9 @@ pub fn by_names<T>(resolved: Result<T, ResolveError>) -> Result<Option<T>, EditE
 {
     match resolved {
         Ok(value) => Ok(Some(value)),
-        Err(ResolveError::UnknownName(path)) => Err(EditError::Refused(Refusal::UnknownName { path })),
+        Err(ResolveError::UnknownName(path)) => Err(EditError::Refused(Refusal::UnknownName {
+            path,
+        })),
         Err(ResolveError::Ambiguous(name)) => Err(EditError::Refused(Refusal::Ambiguous { name })),
         Err(ResolveError::TypeMismatch) => Ok(None),
         Err(ResolveError::Memory) => Err(EditError::Memory),
