@@ -12,8 +12,8 @@ use edit_rules::test_owner;
 use sql_tree::{Items, Name};
 use std::alloc::{AllocError, Global};
 
-/// A statement that makes, alters or drops an object of a schema. `edit_of` calls each method once, in their order here; `Memory` and
-/// `AllocError` are want of memory.
+/// A statement that makes, alters or drops an object of a schema: contracts see its tests and its edit as `steps`, and what is known
+/// between them as `naming` and `making`. `edit_of` calls the methods in their order here. `Memory` and `AllocError` are want of memory.
 pub trait Making {
     ghost use Rattle.std.specs.Prelude.{◌≡◌, ◌↔◌, ◌∷◌, [], Contains, IfOk, List};
     ghost use Rattle.cat_items.specs.declared.edit.Who.{Who};
