@@ -73,11 +73,11 @@ whole_typed n = type_if (nat_le n 2147483647) sorts.Integer _ tt (type_if (nat_l
 -- what stands behind a point is shorter
 fraction_shorter : (text bytes : List ℕ) → fraction text ≡ Some bytes → length bytes < length text
 fraction_shorter [] bytes e = absurd (let odd : None ≡ Some bytes = e in cc)
-fraction_shorter (b ∷ rest) bytes e = by (b == 46) e
+fraction_shorter (b ∷ rest) bytes e = by (b == 46) e (fraction_shorter rest bytes)
   where
-    by : (x : Bool) → (if x then Some rest else fraction rest) ≡ Some bytes → length bytes < length (b ∷ rest)
-    by true f = let same : rest ≡ bytes = (let is : Some rest ≡ Some bytes = f in cc) in subst (λ l. length l < length (b ∷ rest)) same (omega arith)
-    by false f = omega (arith, fraction_shorter rest bytes f)
+    by : (x : Bool) → (if x then Some rest else fraction rest) ≡ Some bytes → (fraction rest ≡ Some bytes → length bytes < length rest) → length bytes < length (b ∷ rest)
+    by true f later = let same : rest ≡ bytes = (let is : Some rest ≡ Some bytes = f in cc) in subst (λ l. length l < length (b ∷ rest)) same (omega arith)
+    by false f later = omega (arith, later f)
 
 -- a point alone is no number
 one_byte : (a : ℕ) → IsNumber (a ∷ []) → (a == 46) ≡ true → ⊥
