@@ -61,8 +61,10 @@ fn put_columns(
     let sorts = sorts.as_slice();
     let mut place = 0;
     for at in 0..names.len() {
+        let name = &names[at];
+        let sort = &sorts[at];
         place += 1;
-        put_column(alloc, added, view, &names[at], sorts[at], place)?;
+        put_column(alloc, added, view, name, *sort, place)?;
     }
     Ok(())
 }
