@@ -1,6 +1,6 @@
 //! A view with its columns.
 
-ghost use Rattle.std.specs.Prelude.{◌≡◌, ◌≤◌, ◌<◌, ◌↔◌, ◌⊎◌, IfOk, OnOk, Contains, length};
+ghost use Rattle.std.specs.Prelude.{◌≡◌, ◌≤◌, ◌<◌, ◌↔◌, ◌⊎◌, IfOk, OnOk, Some, Contains, length, slice_get};
 ghost use Rattle.cat_items.specs.declared.item.Column.{Column};
 ghost use Rattle.cat_items.specs.declared.item.Item.{Item};
 ghost use Rattle.cat_items.specs.declared.item.Item.TheVariants as item;
@@ -26,6 +26,14 @@ fn column_of(view: &Object, name: &Name, sort: SqlType, place: u32) -> Result<Co
         default: None,
         not_null: false,
     })
+}
+
+/// The type at a place.
+fn sort_at(sorts: &[SqlType], at: usize) -> SqlType
+    requires { at < length sorts.now }
+    ensures { slice_get sorts.now at ≡ Some result }
+{
+    sorts[at]
 }
 
 /// Puts in a column behind those of the places before it.
@@ -62,9 +70,9 @@ fn put_columns(
     let mut place = 0;
     for at in 0..names.len() {
         let name = &names[at];
-        let sort = &sorts[at];
+        let sort = sort_at(sorts, at);
         place += 1;
-        put_column(alloc, added, view, name, *sort, place)?;
+        put_column(alloc, added, view, name, sort, place)?;
     }
     Ok(())
 }
