@@ -33,11 +33,7 @@ struct NewView<'a> {
 fn names_from<'a>(names: &'a Items<Name>, own: &'a Items<Name>) -> &'a Items<Name>
     ensures { result.now ≡ spec.names_from names.now own.now }
 {
-    if names.is_empty() {
-        own
-    } else {
-        names
-    }
+    if names.is_empty() { own } else { names }
 }
 
 /// Refuses another number of columns than there are names.
@@ -76,6 +72,7 @@ impl<'a> Making for NewView<'a> {
     ghost use Rattle.object_edits.specs.ViewSteps.{HasColumns, IsNamed};
 
     type Named = Option<Resolved>;
+
     type Made = Resolved;
 
     ghost steps = { λ s c who. creating_view c s.view s.columns.now (query_of c who s.query.now) };
