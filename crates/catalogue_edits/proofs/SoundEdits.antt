@@ -11,7 +11,7 @@ use Rattle.sql_tree.specs.declared.statement.DropKind.TheVariants as drops
 use Rattle.sql_tree.specs.declared.statement.GrantPrivileges.{GrantPrivileges as GrantParts}
 use Rattle.sql_tree.specs.declared.statement.GrantRoles.{GrantRoles as GrantRolesParts}
 use Rattle.sql_tree.specs.declared.statement.Statement.{Statement}
-use Rattle.sql_tree.specs.declared.statement.Statement.TheVariants.{CreateSchema, CreateTable, CreateRole, DropObject, DropRole, GrantPrivileges, GrantRoles, RevokePrivileges, RevokeRoles}
+use Rattle.sql_tree.specs.declared.statement.Statement.TheVariants.{CreateSchema, CreateTable, CreateView, CreateRole, DropObject, DropRole, GrantPrivileges, GrantRoles, RevokePrivileges, RevokeRoles}
 use Rattle.cat_items.specs.declared.edit.Edit.{Edit}
 use Rattle.cat_items.specs.declared.edit.Refusal.{Refusal}
 use Rattle.cat_items.specs.declared.edit.Refusal.TheVariants.{NameExists, NameReserved, RoleCycle, UnknownName}
@@ -35,6 +35,8 @@ use Rattle.statement_forms.specs.Written.{IsWritten}
 use Rattle.statement_forms.proofs.Forms.{table_forms}
 use Rattle.table_parts.specs.Parts.{parts_in}
 use Rattle.table_definitions.proofs.SoundCreations.{sound_creation as sound_table}
+use Rattle.object_edits.proofs.SoundViews.{sound_creation as sound_view}
+use Rattle.object_edits.proofs.ViewsSettled.{view_leaves_users}
 use Rattle.define_edit.specs.CreatedSchemas.{create_schema_edit, schema_name, schema_owner}
 use Rattle.define_edit.proofs.SchemaLemmas.{sound_creation as sound_schema}
 use Rattle.drop_edit.specs.DroppedRoles.{IsOfRole}
@@ -99,6 +101,7 @@ unfolding kind_of
 edit_is_sound c who (CreateSchema s) edit good written passed is =
     sound_schema c who (schema_name s.schema) (schema_owner s.schema who) (schema_name s.schema) (schema_owner s.schema who) edit good refl is passed
 edit_is_sound c who (CreateTable s) edit good written passed is = sound_table c who (object_in who.schema s.table) (parts_in s.elements) edit good passed (table_forms s written) is
+edit_is_sound c who (CreateView s) edit good written passed is = sound_view c who s edit good written passed is
 edit_is_sound c who (DropObject d) edit good written passed is = object_is_dropped_soundly c who d.behaviour d.kind d.object edit good passed is
 edit_is_sound c who (CreateRole r) edit good written passed is = role_is_created_soundly c who r edit good passed is
 edit_is_sound c who (GrantRoles g) edit good written passed is = roles_are_granted_soundly c who g edit good passed is
@@ -152,6 +155,7 @@ pub edit_leaves_users : (c : List Item) (who : Who) (s : Statement) (edit : Edit
 unfolding kind_of
 edit_leaves_users c who (CreateSchema s) edit is = schema_leaves_users edit (item.Schema (record { name = schema_name s.schema; owner = schema_owner s.schema who })) (λ name e. cc) is
 edit_leaves_users c who (CreateTable s) edit is = adding_leaves_users _ edit is.2 (λ name h. h)
+edit_leaves_users c who (CreateView s) edit is = view_leaves_users c who s edit is
 edit_leaves_users c who (DropObject d) edit is = drop_leaves_users c who d.behaviour d.kind d.object edit is
 edit_leaves_users c who (CreateRole r) edit is = subst LeavesUsers (sym is.2) (role_leaves_users r.role is.0)
 edit_leaves_users c who (GrantRoles g) edit is = adding_leaves_users (IsGrantedRole is.0 g.roles g.grantees g.admin_option) edit is.2 (λ name h. h)

@@ -8,7 +8,7 @@ use Rattle.sql_tree.specs.declared.statement.Behaviour.TheVariants.{Restrict, Ca
 use Rattle.sql_tree.specs.declared.statement.DropKind.{DropKind}
 use Rattle.sql_tree.specs.declared.statement.DropKind.TheVariants as drops
 use Rattle.sql_tree.specs.declared.statement.Statement.{Statement}
-use Rattle.sql_tree.specs.declared.statement.Statement.TheVariants.{CreateSchema, CreateTable, CreateRole, DropObject, DropRole, GrantPrivileges, GrantRoles, RevokePrivileges, RevokeRoles}
+use Rattle.sql_tree.specs.declared.statement.Statement.TheVariants.{CreateSchema, CreateTable, CreateView, CreateRole, DropObject, DropRole, GrantPrivileges, GrantRoles, RevokePrivileges, RevokeRoles}
 use Rattle.cat_items.specs.declared.edit.Edit.{Edit}
 use Rattle.cat_items.specs.declared.edit.Refusal.{Refusal}
 use Rattle.cat_items.specs.declared.edit.Who.{Who}
@@ -16,6 +16,7 @@ use Rattle.cat_items.specs.declared.item.Item.{Item}
 use Rattle.edit_rules.specs.Names.{object_in}
 use Rattle.table_definitions.specs.Built.{IsBuiltTable}
 use Rattle.table_definitions.specs.Tables.{IsTableCreation, create_table_refusals}
+use Rattle.object_edits.specs.CreatedViews.{IsViewCreation, create_view_refusals}
 use Rattle.define_edit.specs.CreatedSchemas.{create_schema_edit, create_schema_refusals}
 use Rattle.drop_edit.specs.DroppedRoles.{IsRoleDrop, drop_role_refusals}
 use Rattle.drop_edit.specs.DroppedTables.{IsTableDrop, drop_table_refusals}
@@ -57,10 +58,11 @@ drop_kind behaviour drops.Table name = record {
 }
 drop_kind behaviour kind name = no_kind
 
--- CREATE SCHEMA without elements, CREATE TABLE without domains and CHECK, DROP TABLE, and what is said on roles and privileges
+-- CREATE SCHEMA without elements, CREATE TABLE without domains and CHECK, CREATE VIEW, DROP TABLE, and what is said on roles and privileges
 unfoldable pub kind_of : Statement → Kind
 kind_of (CreateSchema s) = record { built = s.elements ≡ []; refusals = λ c who. create_schema_refusals c who s.schema; makes = λ c who edit. edit ≡ create_schema_edit who s.schema; warns = is_silent; restricts = None }
 kind_of (CreateTable s) = record { built = IsBuiltTable s.elements; refusals = λ c who. create_table_refusals c who s; makes = λ c who. IsTableCreation c who s; warns = is_silent; restricts = None }
+kind_of (CreateView s) = record { built = Unit {0}; refusals = λ c who. create_view_refusals c who s; makes = λ c who. IsViewCreation c who s; warns = is_silent; restricts = None }
 kind_of (DropObject d) = drop_kind d.behaviour d.kind d.object
 kind_of (CreateRole r) = record { built = Unit {0}; refusals = λ c who. create_role_refusals c who r; makes = λ c who. IsRoleCreation c who r; warns = is_silent; restricts = None }
 kind_of (DropRole role) = record { built = Unit {0}; refusals = λ c who. drop_role_refusals c who role; makes = λ c who. IsRoleDrop c role; warns = is_silent; restricts = Some true }

@@ -15,6 +15,7 @@ use cat_items::{Catalogue, Edit, EditError, Who};
 use define_edit::create_schema;
 use drop_edit::{drop_role, drop_table};
 use grant_edit::{Granting, grant, revoke};
+use object_edits::create_view;
 use role_edit::{create_role, grant_roles, revoke_roles};
 use sql_tree::{Behaviour, DropKind, DropObject, Statement};
 use std::alloc::Global;
@@ -118,6 +119,7 @@ pub fn plan_of(
             Ok(silent(create_schema(alloc, c, who, &parts.schema)?, None))
         }
         Statement::CreateTable(parts) => Ok(silent(create_table(alloc, c, who, parts)?, None)),
+        Statement::CreateView(parts) => Ok(silent(create_view(alloc, c, who, parts)?, None)),
         Statement::DropObject(parts) => dropping(alloc, c, who, parts),
         Statement::CreateRole(parts) => Ok(silent(create_role(alloc, c, who, parts)?, None)),
         Statement::DropRole(role) => Ok(silent(drop_role(alloc, c, who, role)?, Some(true))),

@@ -1,5 +1,5 @@
 use Rattle.std.proofs.Common.{refl, subst}
-use Rattle.sql_tree.specs.declared.statement.Statement.TheVariants.{CreateSchema, CreateTable, CreateRole, DropRole, GrantPrivileges, GrantRoles, RevokePrivileges, RevokeRoles}
+use Rattle.sql_tree.specs.declared.statement.Statement.TheVariants.{CreateSchema, CreateTable, CreateView, CreateRole, DropRole, GrantPrivileges, GrantRoles, RevokePrivileges, RevokeRoles}
 use Rattle.statement_forms.specs.Written.{IsWritten}
 use Rattle.statement_forms.proofs.Forms.{table_forms}
 use Rattle.catalogue_edits.specs.Kinds.{kind_of}
@@ -20,6 +20,15 @@ unfolding kind_of
 returns-in_ok-create_table-in-CreateTable-clause-planned c =
     let tested = c.in_ok-create_table-in-CreateTable.ensures.tested in
     silently _ (CreateTable c.in-CreateTable.parts) c.args.c.now.items c.args.who.now _ _ c.silent-in-CreateTable.result c.in-CreateTable.is c.silent-in-CreateTable.ensures tested.0 tested.1 refl refl
+
+pub create_view-requires-clause-written : goal.create_view-requires-clause-written
+create_view-requires-clause-written c = subst IsWritten c.in-CreateView.is c.requires.written
+
+pub returns-in_ok-create_view-in-CreateView-clause-planned : goal.returns-in_ok-create_view-in-CreateView-clause-planned
+unfolding kind_of
+returns-in_ok-create_view-in-CreateView-clause-planned c =
+    let tested = c.in_ok-create_view-in-CreateView.ensures.tested in
+    silently _ (CreateView c.in-CreateView.parts) c.args.c.now.items c.args.who.now _ _ c.silent-in-CreateView.result c.in-CreateView.is c.silent-in-CreateView.ensures tested.0 tested.1 refl refl
 
 pub returns-in_ok-create_role-in-CreateRole-clause-planned : goal.returns-in_ok-create_role-in-CreateRole-clause-planned
 unfolding kind_of
