@@ -167,7 +167,6 @@ module _ (c : List Item) (k : DropKind) (o : Object) (edit : Edit) (good : IsGoo
 
 -- ---- the statement's object
 
-
 named_assertion : (o : Object) (y : Item) → IsAssertion o y → IsBeside kind.Assertion o y
 named_assertion o (item.Assertion a) is = (refl, λ i. Some (is i).schema)
 named_assertion o y is = absurd is

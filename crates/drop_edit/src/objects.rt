@@ -172,7 +172,11 @@ pub fn belongings(
     ensures { IfOk result (λ found. AreChosen c.now.items (spec.GoesWith kind object.now) found) }
 {
     let path = path_of(object)?;
-    let dropped = Dropped { kind, object, path: &path };
+    let dropped = Dropped {
+        kind,
+        object,
+        path: &path,
+    };
     chosen(alloc, c, &dropped)
 }
 
