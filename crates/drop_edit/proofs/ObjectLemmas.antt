@@ -23,7 +23,7 @@ use Rattle.cat_items.specs.Catalogues.{IsInOrder}
 use Rattle.cat_items.specs.Edits.{IsEdited}
 use Rattle.cat_items.specs.Fit.{LacksPart}
 use Rattle.cat_items.specs.Good.{IsGood}
-use Rattle.cat_items.specs.Ranges.{IsDomainOf, IsRoutineOf, IsView}
+use Rattle.cat_items.specs.Ranges.{IsRoutineOf, IsView}
 use Rattle.cat_items.specs.Reach.{Has}
 use Rattle.cat_items.specs.Rights.{path_of, IsBaseTable, IsDomain, IsObject, IsRoutine, IsTable}
 use Rattle.edit_laws.specs.Forms.{HasForm, IsTaken, RightsLackParts, SaysOf, TakesWholeViews}

@@ -10,7 +10,6 @@ use Rattle.cat_items.specs.declared.item.Item.{Item}
 use Rattle.edit_rules.proofs.SettledEdits.{taking_settled}
 use Rattle.edit_rules.specs.Names.{object_in}
 use Rattle.edit_rules.proofs.FirstLaws.{AreSettled}
-use Rattle.edit_rules.specs.Privileges.{no_privilege}
 use Rattle.edit_rules.proofs.Settled.{lacks_settled}
 use Rattle.cat_items.specs.Rights.{admin}
 use Rattle.drop_edit.specs.DroppedObjects.{GoesWith, drop_object_refusals}
