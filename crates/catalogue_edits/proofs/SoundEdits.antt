@@ -9,7 +9,6 @@ use Rattle.sql_tree.specs.declared.statement.GrantRoles.{GrantRoles as GrantRole
 use Rattle.sql_tree.specs.declared.statement.Statement.{Statement}
 use Rattle.sql_tree.specs.declared.statement.Statement.TheVariants.{CreateSchema, CreateTable, CreateRole, DropObject, DropRole, GrantPrivileges, GrantRoles, RevokePrivileges, RevokeRoles}
 use Rattle.cat_items.specs.declared.edit.Edit.{Edit}
-use Rattle.cat_items.specs.declared.edit.Refusal.{Refusal}
 use Rattle.cat_items.specs.declared.edit.Refusal.TheVariants.{NameExists, NameReserved, RoleCycle, UnknownName}
 use Rattle.cat_items.specs.declared.edit.Who.{Who}
 use Rattle.cat_items.specs.declared.item.Item.{Item}
@@ -30,7 +29,7 @@ use Rattle.statement_forms.specs.Written.{IsWritten}
 use Rattle.statement_forms.proofs.Forms.{table_forms}
 use Rattle.table_parts.specs.Parts.{parts_in}
 use Rattle.table_definitions.proofs.SoundCreations.{sound_creation as sound_table}
-use Rattle.define_edit.specs.CreatedSchemas.{create_schema_edit, schema_name, schema_owner}
+use Rattle.define_edit.specs.CreatedSchemas.{schema_name, schema_owner}
 use Rattle.define_edit.proofs.SchemaLemmas.{sound_creation as sound_schema}
 use Rattle.drop_edit.specs.DroppedObjects.{GoesWith}
 use Rattle.drop_edit.specs.DroppedRoles.{IsOfRole}
@@ -48,7 +47,7 @@ use Rattle.grant_edit.specs.Revokes.{IsIdentifiedRight}
 use Rattle.grant_edit.specs.Statements.{GrantsEdit, revoked_by, target_object}
 use Rattle.grant_edit.proofs.RightLemmas.{grant_is_right}
 use Rattle.grant_edit.proofs.Soundness.{adding_is_sound, taking_is_sound}
-use Rattle.catalogue_edits.specs.Kinds.{drop_kind, kind_of}
+use Rattle.catalogue_edits.specs.Kinds.{kind_of}
 use Rattle.catalogue_edits.specs.Revisions.{for_edit, outcome_refusals, revision_refusals, IsRevised}
 use Rattle.catalogue_edits.specs.Statements.{edit_refusals, IsEditOf}
 use Rattle.catalogue_edits.specs.declared.warning.Warning.{Warning}

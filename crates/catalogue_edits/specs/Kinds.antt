@@ -1,7 +1,6 @@
 -- The statements that edit a catalogue, in one table: of each kind, by its parts, the tests in their order, the edit, what it
 -- warns of, and whether it has the behaviour RESTRICT.
 use Rattle.std.specs.Prelude.{◌≡◌, Bool, true, false, List, [], Option, Some, None}
-use Rattle.sql_names.specs.NameBytes.{NameBytes}
 use Rattle.sql_names.specs.declared.column.ObjectName.{ObjectName}
 use Rattle.sql_tree.specs.declared.statement.Behaviour.{Behaviour}
 use Rattle.sql_tree.specs.declared.statement.Behaviour.TheVariants.{Restrict, Cascade}
