@@ -24,7 +24,7 @@ pub fn is_edit(statement: &Statement) -> bool
         Statement::CreateSchema(parts) => parts.elements.is_empty(),
         Statement::CreateTable(parts) => is_built(&parts.elements),
         Statement::CreateView(_) => true,
-        Statement::DropObject(parts) => matches!(parts.kind, DropKind::Table),
+        Statement::DropObject(parts) => !matches!(parts.kind, DropKind::Domain),
         Statement::CreateRole(_) | Statement::GrantRoles(_) | Statement::RevokeRoles(_) => true,
         Statement::DropRole(_) => true,
         Statement::GrantPrivileges(_) | Statement::RevokePrivileges(_) => true,
