@@ -3,14 +3,13 @@ use Rattle.std.proofs.Common.{◌≡◌, ◌∙◌, List, None, Option, Some, Bo
 use Rattle.sql_names.specs.declared.column.ObjectName.{ObjectName}
 use Rattle.sql_tree.specs.declared.statement.Behaviour.{Behaviour}
 use Rattle.sql_tree.specs.declared.statement.DropKind.{DropKind}
-use Rattle.sql_tree.specs.declared.statement.DropKind.TheVariants as drops
 use Rattle.sql_tree.specs.declared.statement.Statement.{Statement}
 use Rattle.cat_items.specs.declared.edit.Edit.{Edit}
 use Rattle.cat_items.specs.declared.edit.Who.{Who}
 use Rattle.cat_items.specs.declared.item.Item.{Item}
 use Rattle.edit_rules.specs.First.{First, Passes}
 use Rattle.edit_rules.specs.Names.{object_in}
-use Rattle.drop_edit.specs.DroppedTables.{IsTableDrop, drop_table_refusals}
+use Rattle.drop_edit.specs.DroppedObjects.{IsObjectDrop, drop_object_refusals}
 use Rattle.catalogue_edits.specs.declared.plan.Plan.{Plan}
 use Rattle.catalogue_edits.specs.Kinds.{Kind, drop_kind, kind_of, where_restrict}
 use Rattle.catalogue_edits.specs.Statements.{IsPlanned}
@@ -48,14 +47,14 @@ pub warns_as : (P Q : Type 0) (kind : Warning) (warning : Option Warning) → (P
 warns_as P Q kind None to from warns = λ q. warns (from q)
 warns_as P Q kind (Some warning) to from warns = (to warns.0, warns.1)
 
--- DROP of a base table
-pub dropped : (behaviour : Behaviour) (kind : DropKind) (name : ObjectName) (c : List Item) (who : Who) (edit : Edit) (restrict : Option Bool) (plan : Plan) → kind ≡ drops.Table
-    → plan ≡ record { edit = edit; warning = None; restrict = restrict } → Passes (First (drop_table_refusals c who name)) → IsTableDrop c (object_in who.schema name) edit → restrict ≡ where_restrict behaviour false
+-- DROP of an object
+pub dropped : (behaviour : Behaviour) (kind : DropKind) (name : ObjectName) (c : List Item) (who : Who) (edit : Edit) (restrict : Option Bool) (plan : Plan)
+    → plan ≡ record { edit = edit; warning = None; restrict = restrict } → Passes (First (drop_object_refusals c who kind name)) → IsObjectDrop c kind (object_in who.schema name) edit → restrict ≡ where_restrict behaviour false
     → IsPlannedBy (drop_kind behaviour kind name) c who plan
-dropped behaviour kind name c who edit restrict plan is made passes makes same = subst (λ k. IsPlannedBy (drop_kind behaviour k name) c who plan) (sym is) (
+dropped behaviour kind name c who edit restrict plan made passes makes same = (
   passes,
   record {
-    edit = subst (IsTableDrop c (object_in who.schema name)) (sym (ap (λ (p : Plan). p.edit) made)) makes;
+    edit = subst (IsObjectDrop c kind (object_in who.schema name)) (sym (ap (λ (p : Plan). p.edit) made)) makes;
     warning = ap (λ (p : Plan). p.warning) made;
     restrict = ap (λ (p : Plan). p.restrict) made ∙ same;
   },

@@ -3,12 +3,10 @@ use Rattle.std.proofs.Common.{◌≡◌, ℕ, Bool, List, [], Option, Some, None
 use Rattle.sql_names.specs.declared.column.ObjectName.{ObjectName}
 use Rattle.sql_tree.specs.declared.statement.Behaviour.{Behaviour}
 use Rattle.sql_tree.specs.declared.statement.DropKind.{DropKind}
-use Rattle.sql_tree.specs.declared.statement.DropKind.TheVariants as drops
-use Rattle.sql_tree.specs.declared.statement.DropObject.{DropObject as DropObjectParts}
 use Rattle.sql_tree.specs.declared.statement.GrantPrivileges.{GrantPrivileges as GrantParts}
 use Rattle.sql_tree.specs.declared.statement.SchemaNameClause.{SchemaNameClause}
 use Rattle.sql_tree.specs.declared.statement.Statement.{Statement}
-use Rattle.sql_tree.specs.declared.statement.Statement.TheVariants.{CreateSchema, CreateTable, CreateRole, DropObject, DropRole, GrantPrivileges, GrantRoles, RevokePrivileges, RevokeRoles}
+use Rattle.sql_tree.specs.declared.statement.Statement.TheVariants.{CreateSchema, CreateTable, CreateView, CreateRole, DropObject, DropRole, GrantPrivileges, GrantRoles, RevokePrivileges, RevokeRoles}
 use Rattle.cat_items.specs.declared.edit.Edit.{Edit}
 use Rattle.cat_items.specs.declared.edit.Refusal.{Refusal}
 use Rattle.cat_items.specs.declared.edit.Refusal.TheVariants.{StillNeeded, CatalogFull}
@@ -23,10 +21,14 @@ use Rattle.new_catalogues.proofs.FurtherLemmas.{one_further}
 use Rattle.new_catalogues.proofs.WidthLemmas.{one_width}
 use Rattle.edit_rules.specs.First.{First}
 use Rattle.edit_rules.proofs.FirstLaws.{IsSettled, AreSettled, first_settled}
+use Rattle.edit_rules.specs.Names.{object_in}
 use Rattle.edit_rules.proofs.Settled.{grantor_settled}
+use Rattle.edit_rules.proofs.SettledEdits.{taking_settled}
+use Rattle.object_edits.proofs.ViewsSettled.{view_edit_settled, view_refusals_settled}
 use Rattle.table_definitions.proofs.Settled as tables
 use Rattle.define_edit.specs.CreatedSchemas.{create_schema_refusals}
-use Rattle.drop_edit.proofs.Settled.{drop_settled, drop_refusals_settled}
+use Rattle.drop_edit.specs.DroppedObjects.{GoesWith}
+use Rattle.drop_edit.proofs.Settled.{drop_settled, drop_refusals_settled, object_refusals_settled}
 use Rattle.role_edit.proofs.Settled.{creation_settled, creation_refusals_settled, grant_settled, grant_refusals_settled, revoke_settled, revoke_refusals_settled}
 use Rattle.grant_edit.specs.Grants.{IsPartial}
 use Rattle.grant_edit.specs.Statements.{privileges_named}
@@ -73,15 +75,17 @@ nothing_of_kind : IsSettledKind no_kind
 nothing_of_kind = record { refusals = λ c who. tt; edit = λ c who a b p q. absurd p; warning = silent_settled }
 
 drop_kind_settled : (behaviour : Behaviour) (kind : DropKind) (name : ObjectName) → IsSettledKind (drop_kind behaviour kind name)
-drop_kind_settled behaviour drops.Table name =
-    let parts : DropObjectParts = record { kind = drops.Table; object = name; behaviour = behaviour } in
-    record { refusals = λ c who. drop_refusals_settled c who (DropObject parts); edit = λ c who a b p q. drop_settled c who (DropObject parts) a b p q; warning = silent_settled }
-drop_kind_settled behaviour _ name = nothing_of_kind
+drop_kind_settled behaviour kind name = record {
+  refusals = λ c who. object_refusals_settled c who kind name;
+  edit = λ c who a b p q. taking_settled c (GoesWith kind (object_in who.schema name)) a b p q;
+  warning = silent_settled;
+}
 
 kind_settled : (s : Statement) → IsSettledKind (kind_of s)
 unfolding kind_of
 kind_settled (CreateSchema s) = record { refusals = λ c who. create_schema_settled c who s.schema; edit = λ c who a b p q. p ∙ sym q; warning = silent_settled }
 kind_settled (CreateTable s) = record { refusals = λ c who. tables.creation_refusals_settled c who s; edit = λ c who a b p q. tables.creation_settled c who s a b p q; warning = silent_settled }
+kind_settled (CreateView s) = record { refusals = λ c who. view_refusals_settled c who s; edit = λ c who a b p q. view_edit_settled c who s a b p q; warning = silent_settled }
 kind_settled (DropObject d) = drop_kind_settled d.behaviour d.kind d.object
 kind_settled (CreateRole r) = record { refusals = λ c who. creation_refusals_settled c who r; edit = λ c who a b p q. creation_settled c who r a b p q; warning = silent_settled }
 kind_settled (DropRole role) = record { refusals = λ c who. drop_refusals_settled c who (DropRole role); edit = λ c who a b p q. drop_settled c who (DropRole role) a b p q; warning = silent_settled }

@@ -3,17 +3,12 @@ use Rattle.std.proofs.Common.{◌≡◌, ◌↔◌, List, [], ◌∷◌, Option,
 use Rattle.std.specs.List.{Contains}
 use Rattle.finite_chains.proofs.Members.{Contains-nil, Contains-cases}
 use Rattle.sql_names.specs.NameBytes.{NameBytes}
-use Rattle.sql_names.specs.declared.column.ObjectName.{ObjectName}
-use Rattle.sql_tree.specs.declared.statement.Behaviour.{Behaviour}
 use Rattle.sql_tree.specs.declared.statement.CreateRole.{CreateRole as CreateRoleParts}
-use Rattle.sql_tree.specs.declared.statement.DropKind.{DropKind}
-use Rattle.sql_tree.specs.declared.statement.DropKind.TheVariants as drops
 use Rattle.sql_tree.specs.declared.statement.GrantPrivileges.{GrantPrivileges as GrantParts}
 use Rattle.sql_tree.specs.declared.statement.GrantRoles.{GrantRoles as GrantRolesParts}
 use Rattle.sql_tree.specs.declared.statement.Statement.{Statement}
-use Rattle.sql_tree.specs.declared.statement.Statement.TheVariants.{CreateSchema, CreateTable, CreateRole, DropObject, DropRole, GrantPrivileges, GrantRoles, RevokePrivileges, RevokeRoles}
+use Rattle.sql_tree.specs.declared.statement.Statement.TheVariants.{CreateSchema, CreateTable, CreateView, CreateRole, DropObject, DropRole, GrantPrivileges, GrantRoles, RevokePrivileges, RevokeRoles}
 use Rattle.cat_items.specs.declared.edit.Edit.{Edit}
-use Rattle.cat_items.specs.declared.edit.Refusal.{Refusal}
 use Rattle.cat_items.specs.declared.edit.Refusal.TheVariants.{NameExists, NameReserved, RoleCycle, UnknownName}
 use Rattle.cat_items.specs.declared.edit.Who.{Who}
 use Rattle.cat_items.specs.declared.item.Item.{Item}
@@ -24,8 +19,7 @@ use Rattle.cat_items.specs.Rights.{admin}
 use Rattle.edit_rules.specs.Chosen.{IsAdding, IsTaking}
 use Rattle.edit_rules.specs.First.{First, Passes}
 use Rattle.edit_rules.specs.Grantors.{no_current_role}
-use Rattle.edit_rules.specs.Names.{object_in, unknown_base_table, unknown_role}
-use Rattle.edit_rules.specs.Owners.{not_owner}
+use Rattle.edit_rules.specs.Names.{object_in, unknown_role}
 use Rattle.edit_rules.specs.Privileges.{no_privilege}
 use Rattle.edit_rules.proofs.FirstLaws.{passes_behind, passes_first, passes_rest, passes_that}
 use Rattle.edit_laws.specs.Sound.{IsSound}
@@ -35,12 +29,14 @@ use Rattle.statement_forms.specs.Written.{IsWritten}
 use Rattle.statement_forms.proofs.Forms.{table_forms}
 use Rattle.table_parts.specs.Parts.{parts_in}
 use Rattle.table_definitions.proofs.SoundCreations.{sound_creation as sound_table}
-use Rattle.define_edit.specs.CreatedSchemas.{create_schema_edit, schema_name, schema_owner}
+use Rattle.object_edits.proofs.SoundViews.{sound_creation as sound_view}
+use Rattle.object_edits.proofs.ViewsSettled.{view_leaves_users}
+use Rattle.define_edit.specs.CreatedSchemas.{schema_name, schema_owner}
 use Rattle.define_edit.proofs.SchemaLemmas.{sound_creation as sound_schema}
+use Rattle.drop_edit.specs.DroppedObjects.{GoesWith}
 use Rattle.drop_edit.specs.DroppedRoles.{IsOfRole}
-use Rattle.drop_edit.specs.DroppedTables.{BelongsTo}
+use Rattle.drop_edit.proofs.ObjectLemmas.{sound_drop, user_stays}
 use Rattle.drop_edit.proofs.RoleLemmas.{sound_of_dropping}
-use Rattle.drop_edit.proofs.TableLemmas.{sound_drop}
 use Rattle.role_edit.specs.CreatedRoles.{IsReservedRole, IsRoleCreation, IsTaken, authorization_exists, create_role_refusals, creating_role, grant_by_system, reserved_role}
 use Rattle.role_edit.specs.GrantedRoles.{IsGrantedRole, IsRoleGrantEdit, grant_roles_refusals, no_admin_option, role_cycle, role_name_refusals}
 use Rattle.role_edit.specs.RevokedRoles.{IsIdentifiedRoleGrant}
@@ -53,7 +49,7 @@ use Rattle.grant_edit.specs.Revokes.{IsIdentifiedRight}
 use Rattle.grant_edit.specs.Statements.{GrantsEdit, revoked_by, target_object}
 use Rattle.grant_edit.proofs.RightLemmas.{grant_is_right}
 use Rattle.grant_edit.proofs.Soundness.{adding_is_sound, taking_is_sound}
-use Rattle.catalogue_edits.specs.Kinds.{drop_kind, kind_of}
+use Rattle.catalogue_edits.specs.Kinds.{kind_of}
 use Rattle.catalogue_edits.specs.Revisions.{for_edit, outcome_refusals, revision_refusals, IsRevised}
 use Rattle.catalogue_edits.specs.Statements.{edit_refusals, IsEditOf}
 use Rattle.catalogue_edits.specs.declared.warning.Warning.{Warning}
@@ -77,12 +73,6 @@ roles_are_granted_soundly c who parts edit good passed is =
     let later = passes_behind (role_name_refusals c who parts.roles parts.grantees parts.grantor) (cycle ∷ lacks ∷ []) passed in
     sound_of_granting c is.0 parts.roles parts.grantees parts.admin_option edit good (λ h. passes_first cycle (lacks ∷ []) later RoleCycle (h, refl)) is.2
 
-object_is_dropped_soundly : (c : List Item) (who : Who) (behaviour : Behaviour) (kind : DropKind) (name : ObjectName) (edit : Edit) → IsGood c → Passes (First ((drop_kind behaviour kind name).refusals c who)) → (drop_kind behaviour kind name).makes c who edit → IsSound c edit
-object_is_dropped_soundly c who behaviour drops.Table name edit good passed is =
-    let table = object_in who.schema name in
-    sound_drop c table edit good (passes_first (unknown_base_table c table) (not_owner c who table.schema ∷ []) passed) is
-object_is_dropped_soundly c who behaviour _ name edit good passed is = absurd is
-
 role_is_dropped_soundly : (c : List Item) (who : Who) (role : NameBytes) (edit : Edit) → IsGood c → Passes (First (unknown_role c role ∷ no_privilege c who.user (admin role ∷ []) ∷ [])) → IsTaking c (IsOfRole role) edit → IsSound c edit
 role_is_dropped_soundly c who role edit good passed is =
     sound_of_dropping c role edit good (λ none. passes_first (unknown_role c role) (no_privilege c who.user (admin role ∷ []) ∷ []) passed (UnknownName (role ∷ [])) (none, refl)) is
@@ -99,7 +89,8 @@ unfolding kind_of
 edit_is_sound c who (CreateSchema s) edit good written passed is =
     sound_schema c who (schema_name s.schema) (schema_owner s.schema who) (schema_name s.schema) (schema_owner s.schema who) edit good refl is passed
 edit_is_sound c who (CreateTable s) edit good written passed is = sound_table c who (object_in who.schema s.table) (parts_in s.elements) edit good passed (table_forms s written) is
-edit_is_sound c who (DropObject d) edit good written passed is = object_is_dropped_soundly c who d.behaviour d.kind d.object edit good passed is
+edit_is_sound c who (CreateView s) edit good written passed is = sound_view c who s edit good written passed is
+edit_is_sound c who (DropObject d) edit good written passed is = sound_drop c d.kind (object_in who.schema d.object) edit good is
 edit_is_sound c who (CreateRole r) edit good written passed is = role_is_created_soundly c who r edit good passed is
 edit_is_sound c who (GrantRoles g) edit good written passed is = roles_are_granted_soundly c who g edit good passed is
 edit_is_sound c who (RevokeRoles g) edit good written passed is = sound_of_revoking c is.0 g edit good is.2
@@ -144,15 +135,12 @@ role_leaves_users role administrator name = (λ h. Contains-nil (item.User name)
           ]
         ]
 
-drop_leaves_users : (c : List Item) (who : Who) (behaviour : Behaviour) (kind : DropKind) (name : ObjectName) (edit : Edit) → (drop_kind behaviour kind name).makes c who edit → LeavesUsers edit
-drop_leaves_users c who behaviour drops.Table name edit is = taking_leaves_users c (BelongsTo (object_in who.schema name)) edit is (λ user h. h)
-drop_leaves_users c who behaviour _ name edit is = absurd is
-
 pub edit_leaves_users : (c : List Item) (who : Who) (s : Statement) (edit : Edit) → IsEditOf c who s edit → LeavesUsers edit
 unfolding kind_of
 edit_leaves_users c who (CreateSchema s) edit is = schema_leaves_users edit (item.Schema (record { name = schema_name s.schema; owner = schema_owner s.schema who })) (λ name e. cc) is
 edit_leaves_users c who (CreateTable s) edit is = adding_leaves_users _ edit is.2 (λ name h. h)
-edit_leaves_users c who (DropObject d) edit is = drop_leaves_users c who d.behaviour d.kind d.object edit is
+edit_leaves_users c who (CreateView s) edit is = view_leaves_users c who s edit is
+edit_leaves_users c who (DropObject d) edit is = let object = object_in who.schema d.object in taking_leaves_users c (GoesWith d.kind object) edit is (λ user h. user_stays d.kind object user h)
 edit_leaves_users c who (CreateRole r) edit is = subst LeavesUsers (sym is.2) (role_leaves_users r.role is.0)
 edit_leaves_users c who (GrantRoles g) edit is = adding_leaves_users (IsGrantedRole is.0 g.roles g.grantees g.admin_option) edit is.2 (λ name h. h)
 edit_leaves_users c who (RevokeRoles g) edit is = taking_leaves_users c (IsIdentifiedRoleGrant is.0 g) edit is.2 (λ name h. h)

@@ -1,14 +1,12 @@
 -- The statements that edit a catalogue, in one table: of each kind, by its parts, the tests in their order, the edit, what it
 -- warns of, and whether it has the behaviour RESTRICT.
 use Rattle.std.specs.Prelude.{◌≡◌, Bool, true, false, List, [], Option, Some, None}
-use Rattle.sql_names.specs.NameBytes.{NameBytes}
 use Rattle.sql_names.specs.declared.column.ObjectName.{ObjectName}
 use Rattle.sql_tree.specs.declared.statement.Behaviour.{Behaviour}
 use Rattle.sql_tree.specs.declared.statement.Behaviour.TheVariants.{Restrict, Cascade}
 use Rattle.sql_tree.specs.declared.statement.DropKind.{DropKind}
-use Rattle.sql_tree.specs.declared.statement.DropKind.TheVariants as drops
 use Rattle.sql_tree.specs.declared.statement.Statement.{Statement}
-use Rattle.sql_tree.specs.declared.statement.Statement.TheVariants.{CreateSchema, CreateTable, CreateRole, DropObject, DropRole, GrantPrivileges, GrantRoles, RevokePrivileges, RevokeRoles}
+use Rattle.sql_tree.specs.declared.statement.Statement.TheVariants.{CreateSchema, CreateTable, CreateView, CreateRole, DropObject, DropRole, GrantPrivileges, GrantRoles, RevokePrivileges, RevokeRoles}
 use Rattle.cat_items.specs.declared.edit.Edit.{Edit}
 use Rattle.cat_items.specs.declared.edit.Refusal.{Refusal}
 use Rattle.cat_items.specs.declared.edit.Who.{Who}
@@ -16,9 +14,11 @@ use Rattle.cat_items.specs.declared.item.Item.{Item}
 use Rattle.edit_rules.specs.Names.{object_in}
 use Rattle.table_definitions.specs.Built.{IsBuiltTable}
 use Rattle.table_definitions.specs.Tables.{IsTableCreation, create_table_refusals}
+use Rattle.object_edits.specs.CreatedViews.{IsViewCreation, create_view_refusals}
 use Rattle.define_edit.specs.CreatedSchemas.{create_schema_edit, create_schema_refusals}
+use Rattle.drop_edit.specs.DroppedObjects.{IsObjectDrop, drop_object_refusals}
 use Rattle.drop_edit.specs.DroppedRoles.{IsRoleDrop, drop_role_refusals}
-use Rattle.drop_edit.specs.DroppedTables.{IsTableDrop, drop_table_refusals}
+use Rattle.drop_edit.specs.Drops.{OnlyTakes}
 use Rattle.role_edit.specs.CreatedRoles.{IsRoleCreation, create_role_refusals}
 use Rattle.role_edit.specs.GrantedRoles.{IsRoleGrantEdit, grant_roles_refusals}
 use Rattle.role_edit.specs.RevokedRoles.{IsRoleRevokeEdit, revoke_roles_refusals}
@@ -46,21 +46,21 @@ where_restrict Cascade by_rights = None
 abbrev pub no_kind : Kind
 no_kind = record { built = ⊥; refusals = λ c who. []; makes = λ c who edit. ⊥; warns = is_silent; restricts = None }
 
--- DROP of an object: of a base table so far
+-- DROP of an object that only takes: of all kinds but domains
 abbrev pub drop_kind : Behaviour → DropKind → ObjectName → Kind
-drop_kind behaviour drops.Table name = record {
-  built = Unit {0};
-  refusals = λ c who. drop_table_refusals c who name;
-  makes = λ c who. IsTableDrop c (object_in who.schema name);
+drop_kind behaviour kind name = record {
+  built = OnlyTakes kind;
+  refusals = λ c who. drop_object_refusals c who kind name;
+  makes = λ c who. IsObjectDrop c kind (object_in who.schema name);
   warns = is_silent;
   restricts = where_restrict behaviour false;
 }
-drop_kind behaviour kind name = no_kind
 
--- CREATE SCHEMA without elements, CREATE TABLE without domains and CHECK, DROP TABLE, and what is said on roles and privileges
+-- CREATE SCHEMA without elements, CREATE TABLE without domains and CHECK, CREATE VIEW, DROP of objects, and what is said on roles and privileges
 unfoldable pub kind_of : Statement → Kind
 kind_of (CreateSchema s) = record { built = s.elements ≡ []; refusals = λ c who. create_schema_refusals c who s.schema; makes = λ c who edit. edit ≡ create_schema_edit who s.schema; warns = is_silent; restricts = None }
 kind_of (CreateTable s) = record { built = IsBuiltTable s.elements; refusals = λ c who. create_table_refusals c who s; makes = λ c who. IsTableCreation c who s; warns = is_silent; restricts = None }
+kind_of (CreateView s) = record { built = Unit {0}; refusals = λ c who. create_view_refusals c who s; makes = λ c who. IsViewCreation c who s; warns = is_silent; restricts = None }
 kind_of (DropObject d) = drop_kind d.behaviour d.kind d.object
 kind_of (CreateRole r) = record { built = Unit {0}; refusals = λ c who. create_role_refusals c who r; makes = λ c who. IsRoleCreation c who r; warns = is_silent; restricts = None }
 kind_of (DropRole role) = record { built = Unit {0}; refusals = λ c who. drop_role_refusals c who role; makes = λ c who. IsRoleDrop c role; warns = is_silent; restricts = Some true }

@@ -13,10 +13,11 @@ ghost use Rattle.catalogue_edits.specs.declared.warning.Warning.TheVariants.{Not
 use crate::warning::Warning;
 use cat_items::{Catalogue, Edit, EditError, Who};
 use define_edit::create_schema;
-use drop_edit::{drop_role, drop_table};
+use drop_edit::{drop_object, drop_role};
 use grant_edit::{Granting, grant, revoke};
+use object_edits::create_view;
 use role_edit::{create_role, grant_roles, revoke_roles};
-use sql_tree::{Behaviour, DropKind, DropObject, Statement};
+use sql_tree::{Behaviour, DropObject, Statement};
 use std::alloc::Global;
 use table_definitions::create_table;
 
@@ -86,17 +87,14 @@ fn granting(granting: Granting) -> Plan
 
 /// The plan of a DROP of an object.
 fn dropping(alloc: Global, c: &Catalogue, who: &Who, parts: &DropObject) -> Result<Plan, EditError>
-    requires good { IsGood c.now.items }
-    requires built { (kinds.drop_kind parts.now.behaviour parts.now.kind parts.now.object).built }
+    requires { IsGood c.now.items }
     ensures planned { IsTested ((kinds.drop_kind parts.now.behaviour parts.now.kind parts.now.object).refusals c.now.items who.now)
         (IsPlanned (kinds.drop_kind parts.now.behaviour parts.now.kind parts.now.object) c.now.items who.now) result }
     ensures sound { IfOk result (λ plan. IsSound c.now.items plan.edit) }
 {
     let restrict = where_restrict(parts.behaviour, false);
-    match parts.kind {
-        DropKind::Table => Ok(silent(drop_table(alloc, c, who, &parts.object)?, restrict)),
-        _ => unreachable!(),
-    }
+    let edit = drop_object(alloc, c, who, parts.kind, &parts.object)?;
+    Ok(silent(edit, restrict))
 }
 
 /// What a statement does to a catalogue, or the first of its refusals by the catalogue as it is.
@@ -118,6 +116,7 @@ pub fn plan_of(
             Ok(silent(create_schema(alloc, c, who, &parts.schema)?, None))
         }
         Statement::CreateTable(parts) => Ok(silent(create_table(alloc, c, who, parts)?, None)),
+        Statement::CreateView(parts) => Ok(silent(create_view(alloc, c, who, parts)?, None)),
         Statement::DropObject(parts) => dropping(alloc, c, who, parts),
         Statement::CreateRole(parts) => Ok(silent(create_role(alloc, c, who, parts)?, None)),
         Statement::DropRole(role) => Ok(silent(drop_role(alloc, c, who, role)?, Some(true))),

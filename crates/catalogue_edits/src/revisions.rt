@@ -23,7 +23,8 @@ pub fn is_edit(statement: &Statement) -> bool
     match statement {
         Statement::CreateSchema(parts) => parts.elements.is_empty(),
         Statement::CreateTable(parts) => is_built(&parts.elements),
-        Statement::DropObject(parts) => matches!(parts.kind, DropKind::Table),
+        Statement::CreateView(_) => true,
+        Statement::DropObject(parts) => !matches!(parts.kind, DropKind::Domain),
         Statement::CreateRole(_) | Statement::GrantRoles(_) | Statement::RevokeRoles(_) => true,
         Statement::DropRole(_) => true,
         Statement::GrantPrivileges(_) | Statement::RevokePrivileges(_) => true,

@@ -9,12 +9,13 @@ ghost use Rattle.define_edit.specs.Creations.{IsBuiltCreation, IsCreation, creat
 
 use crate::schemas::create_schema;
 use cat_items::{Catalogue, Edit, EditError, Who};
+use object_edits::create_view;
 use sql_tree::Statement;
 use std::alloc::Global;
 use table_definitions::create_table;
 
-/// What CREATE SCHEMA or CREATE TABLE adds to a catalogue, or why it is refused (SQL:2003 part 2, 11.1 and 11.3). `Memory` is want of
-/// memory.
+/// What CREATE SCHEMA, CREATE TABLE or CREATE VIEW adds to a catalogue, or why it is refused (SQL:2003 part 2, 11.1, 11.3 and 11.22).
+/// `Memory` is want of memory.
 pub fn edit_create(
     alloc: Global,
     c: &Catalogue,
@@ -30,6 +31,7 @@ pub fn edit_create(
     match statement {
         Statement::CreateSchema(parts) => create_schema(alloc, c, who, &parts.schema),
         Statement::CreateTable(parts) => create_table(alloc, c, who, parts),
+        Statement::CreateView(parts) => create_view(alloc, c, who, parts),
         _ => unreachable!(),
     }
 }

@@ -1,4 +1,4 @@
-//! Statements that define: CREATE SCHEMA and CREATE TABLE, as the edits that they make of a catalogue.
+//! Statements that define: CREATE SCHEMA, CREATE TABLE and CREATE VIEW, as the edits that they make of a catalogue.
 #![tactic(auto)]
 
 mod creations;

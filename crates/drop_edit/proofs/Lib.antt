@@ -1,3 +1,3 @@
 pub mod Settled
-pub mod TableLemmas
+pub mod ObjectLemmas
 pub mod RoleLemmas

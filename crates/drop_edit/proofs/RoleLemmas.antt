@@ -1,5 +1,5 @@
 -- A role goes soundly with the grants of it and to it, and the privileges that were granted to it.
-use Rattle.std.proofs.Common.{◌≡◌, ◌⊎◌, inl, inr, ℕ, List, [], ◌∷◌, Some, refl, sym, subst, ap, ◌∙◌}
+use Rattle.std.proofs.Common.{◌≡◌, inl, inr, ℕ, List, [], ◌∷◌, Some, refl, sym, subst, ap, ◌∙◌}
 use Rattle.std.specs.List.{Contains}
 use Rattle.finite_chains.proofs.Members.{Contains-nil}
 use Rattle.sql_names.specs.declared.object.Object.{Object}

@@ -1,3 +1,3 @@
+pub mod DroppedObjects
 pub mod DroppedRoles
-pub mod DroppedTables
 pub mod Drops

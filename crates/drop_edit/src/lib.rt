@@ -1,10 +1,10 @@
-//! Statements that drop: DROP TABLE and DROP ROLE, as the edits that they make of a catalogue.
+//! Statements that drop: DROP of an object and DROP ROLE, as the edits that they make of a catalogue.
 #![tactic(auto)]
 
 mod drops;
+mod objects;
 mod roles;
-mod tables;
 
 pub use drops::edit_drop;
+pub use objects::{belongings, drop_object, test_dropped};
 pub use roles::drop_role;
-pub use tables::drop_table;

@@ -3,5 +3,5 @@ use Rattle.catalogue_edits.proofs.plan.dropping.Goals as goal
 
 pub returns-clause-planned : goal.returns-clause-planned
 returns-clause-planned c =
-    let tested = c.in_ok-drop_table-in-Table.ensures.tested in
-    dropped _ _ _ c.args.c.now.items c.args.who.now _ _ c.silent.result c.in-Table.is c.silent.ensures tested.0 tested.1 c.where_restrict-restrict.ensures
+    let tested = c.in_ok-edit.ensures.tested in
+    dropped c.args.parts.now.behaviour c.args.parts.now.kind c.args.parts.now.object c.args.c.now.items c.args.who.now _ _ c.silent.result c.silent.ensures tested.0 tested.1 c.where_restrict-restrict.ensures

@@ -1,8 +1,11 @@
-use Rattle.std.proofs.Common.{refl, subst}
-use Rattle.sql_tree.specs.declared.statement.Statement.TheVariants.{CreateSchema, CreateTable, CreateRole, DropRole, GrantPrivileges, GrantRoles, RevokePrivileges, RevokeRoles}
+use Rattle.std.proofs.Common.{refl, subst, sym}
+use Rattle.sql_tree.specs.declared.statement.Statement.{Statement}
+use Rattle.sql_tree.specs.declared.statement.Statement.TheVariants.{CreateSchema, CreateTable, CreateView, CreateRole, DropRole, GrantPrivileges, GrantRoles, RevokePrivileges, RevokeRoles}
+use Rattle.edit_rules.specs.First.{IsTested}
 use Rattle.statement_forms.specs.Written.{IsWritten}
 use Rattle.statement_forms.proofs.Forms.{table_forms}
 use Rattle.catalogue_edits.specs.Kinds.{kind_of}
+use Rattle.catalogue_edits.specs.Statements.{IsPlanned}
 use Rattle.catalogue_edits.proofs.Plans.{planned, silently, warns_as}
 use Rattle.catalogue_edits.proofs.plan.plan_of.Goals as goal
 
@@ -20,6 +23,22 @@ unfolding kind_of
 returns-in_ok-create_table-in-CreateTable-clause-planned c =
     let tested = c.in_ok-create_table-in-CreateTable.ensures.tested in
     silently _ (CreateTable c.in-CreateTable.parts) c.args.c.now.items c.args.who.now _ _ c.silent-in-CreateTable.result c.in-CreateTable.is c.silent-in-CreateTable.ensures tested.0 tested.1 refl refl
+
+pub create_view-requires-clause-written : goal.create_view-requires-clause-written
+create_view-requires-clause-written c = subst IsWritten c.in-CreateView.is c.requires.written
+
+pub returns-in_ok-create_view-in-CreateView-clause-planned : goal.returns-in_ok-create_view-in-CreateView-clause-planned
+unfolding kind_of
+returns-in_ok-create_view-in-CreateView-clause-planned c =
+    let tested = c.in_ok-create_view-in-CreateView.ensures.tested in
+    silently _ (CreateView c.in-CreateView.parts) c.args.c.now.items c.args.who.now _ _ c.silent-in-CreateView.result c.in-CreateView.is c.silent-in-CreateView.ensures tested.0 tested.1 refl refl
+
+pub returns-in-DropObject-clause-planned : goal.returns-in-DropObject-clause-planned
+unfolding kind_of
+returns-in-DropObject-clause-planned c =
+    let items = c.args.c.now.items in
+    let who = c.args.who.now in
+    subst (λ (s : Statement). IsTested ((kind_of s).refusals items who) (IsPlanned (kind_of s) items who) c.dropping.result) (sym c.in-DropObject.is) c.dropping.ensures.planned
 
 pub returns-in_ok-create_role-in-CreateRole-clause-planned : goal.returns-in_ok-create_role-in-CreateRole-clause-planned
 unfolding kind_of

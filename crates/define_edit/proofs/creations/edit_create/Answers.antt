@@ -14,3 +14,9 @@ returns-in-CreateSchema-clause-tested c = subst (λ (s : Statement). IsTested (c
 
 pub returns-in-CreateTable-clause-tested : goal.returns-in-CreateTable-clause-tested
 returns-in-CreateTable-clause-tested c = subst (λ (s : Statement). IsTested (creation_refusals c.args.c.now.items c.args.who.now s) (IsCreation c.args.c.now.items c.args.who.now s) c.create_table.result) (sym c.in-CreateTable.is) c.create_table.ensures.tested
+
+pub create_view-requires-clause-written : goal.create_view-requires-clause-written
+create_view-requires-clause-written c = subst IsWritten c.in-CreateView.is c.requires.written
+
+pub returns-in-CreateView-clause-tested : goal.returns-in-CreateView-clause-tested
+returns-in-CreateView-clause-tested c = subst (λ (s : Statement). IsTested (creation_refusals c.args.c.now.items c.args.who.now s) (IsCreation c.args.c.now.items c.args.who.now s) c.create_view.result) (sym c.in-CreateView.is) c.create_view.ensures.tested

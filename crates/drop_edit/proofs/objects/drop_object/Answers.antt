@@ -1,0 +1,16 @@
+use Rattle.drop_edit.proofs.ObjectLemmas.{dropped, refused_by_owner, sound_drop}
+use Rattle.drop_edit.proofs.objects.drop_object.Goals as goal
+
+pub returns-in_err-test_owner-clause-tested : goal.returns-in_err-test_owner-clause-tested
+returns-in_err-test_owner-clause-tested c =
+    refused_by_owner c.args.c.now.items c.args.who.now c.args.kind c.args.name.now c.in_ok-object.object c.in_err-test_owner.field-0.0 c.from_residual-in_err-test_owner.result c.in_ok-object.ensures c.from_residual-in_err-test_owner.ensures.1
+    c.in_ok-test_dropped.ensures.0 c.in_err-test_owner.ensures
+
+pub returns-clause-tested : goal.returns-clause-tested
+returns-clause-tested c =
+    dropped c.args.c.now.items c.args.who.now c.args.kind c.args.name.now c.in_ok-object.object _ c.in_ok-object.ensures c.in_ok-test_dropped.ensures.0 c.in_ok-test_owner.ensures.0
+    (record { target = c.in_ok-belongings.ensures; changed = c.new.ensures; added = c.new-2.ensures })
+
+pub returns-clause-sound : goal.returns-clause-sound
+returns-clause-sound c =
+    sound_drop c.args.c.now.items c.args.kind c.in_ok-object.object _ c.requires (record { target = c.in_ok-belongings.ensures; changed = c.new.ensures; added = c.new-2.ensures })

@@ -1,0 +1,5 @@
+pub mod AddedColumns
+pub mod FormedViews
+pub mod NamedQueries
+pub mod SoundViews
+pub mod ViewsSettled

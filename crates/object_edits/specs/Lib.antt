@@ -1,0 +1,2 @@
+pub mod CreatedViews
+pub mod ViewSteps
