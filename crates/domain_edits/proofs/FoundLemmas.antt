@@ -74,8 +74,8 @@ module _ (c : List Item) (who : Who) (sort : SqlType) where
       to h = let f = member_of HasNone fs h in let k = written ks fs all f.0 f.1 in any_of (HasNoType c who sort) ks k.0 k.1 (subst (λ z. IsFound (outcome_of c who sort k.0) z) f.2 k.2)
 
       empty : (k : WrittenCheck) (f : Option ResolvedExpr) → HasNoType c who sort k → IsFound (outcome_of c who sort k) f → HasNone f
-      empty k None no is = refl
-      empty k (Some r) no is = absurd (no_type (record { expr = r.expr; sort = r.sort }) (sym is.0 ∙ no))
+      empty k None untyped is = refl
+      empty k (Some r) untyped is = absurd (no_type (record { expr = r.expr; sort = r.sort }) (sym is.0 ∙ untyped))
 
       from : Any (HasNoType c who sort) ks → Any HasNone fs
       from h = let k = member_of (HasNoType c who sort) ks h in let f = condition_of ks fs all k.0 k.1 in any_of HasNone fs f.0 f.1 (empty k.0 f.0 k.2 f.2)

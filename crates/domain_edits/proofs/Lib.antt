@@ -1,3 +1,4 @@
+pub mod DomainLemmas
 pub mod FoundLemmas
 pub mod MadeChecks
 pub mod SoundDomains

@@ -1,7 +1,8 @@
 -- The checks that are made of names and conditions are those of the statement.
-use Rattle.std.proofs.Common.{◌≡◌, ◌≢◌, ◌⊎◌, ◌↔◌, ℕ, ◌<◌, List, [], ◌∷◌, ◌++◌, length, Option, None, Some, Ok, Err, ap, sym, subst, refl, ◌∙◌, inl, inr, arith}
+use Rattle.std.proofs.Common.{◌≡◌, ◌≢◌, ◌⊎◌, ◌↔◌, ℕ, ◌+◌, ◌<◌, ◌≤◌, List, [], ◌∷◌, ◌++◌, length, take, get_or, Option, None, Some, Ok, Err, ap, sym, subst, refl, ◌∙◌, inl, inr, arith}
 use Rattle.std.specs.List.{Any, Contains}
 use Rattle.std.specs.declared.cmp.Ordering.TheVariants.{Equal}
+use Rattle.std.proofs.lemmas.List.{length-take-le, take_all}
 use Rattle.finite_chains.proofs.Members.{Contains-cases, Contains-head, Contains-nil, Contains-tail}
 use Rattle.sql_names.specs.declared.object.Object.{Object}
 use Rattle.sql_names.specs.declared.sort.SqlType.{SqlType}
@@ -19,6 +20,7 @@ use Rattle.name_scopes.specs.Outcomes.{Outcome}
 use Rattle.query_types.specs.declared.whole.TypedExpr.{TypedExpr}
 use Rattle.view_deps.specs.declared.resolve.ResolvedExpr.{ResolvedExpr}
 use Rattle.edit_conditions.specs.Conditions.{IsFound, outcome_in}
+use Rattle.edit_rules.proofs.Lists.{take_next}
 use Rattle.table_parts.specs.Parts.{constraints_of}
 use Rattle.table_names.specs.declared.named.NamedConstraint.{NamedConstraint}
 use Rattle.table_names.specs.Named.{AreNamed}
@@ -117,3 +119,38 @@ among_more domain (m ∷ ns) (g ∷ fs) n f e x =
     )
 among_more domain [] (g ∷ fs) n f e x = absurd (omega (arith, e))
 among_more domain (m ∷ ns) [] n f e x = absurd (omega (arith, e))
+
+pub same_check : (x d : DomainCheck) → item.DomainCheck x ≡ item.DomainCheck d → x ≡ d
+same_check x d e = cc
+
+-- one more check has been put in
+pub grown : (domain : Object) (ns : List NamedConstraint) (fs : List (Option ResolvedExpr)) (i : ℕ) (n : NamedConstraint) (f : Option ResolvedExpr) (old mid new : List Item) → length fs ≡ length ns → i < length ns → n ≡ get_or ns i n → f ≡ get_or fs i f
+    → ((x : Item) → Contains mid x ↔ (Contains old x ⊎ IsCheckAmong domain (take i ns) (take i fs) x)) → ((x : Item) → Contains new x ↔ (Contains mid x ⊎ IsCheckHere domain n f x))
+    → (x : Item) → Contains new x ↔ (Contains old x ⊎ IsCheckAmong domain (take (i + 1) ns) (take (i + 1) fs) x)
+grown domain ns fs i n f old mid new sizes low is_n is_f before step x =
+    let more_n : take (i + 1) ns ≡ take i ns ++ n ∷ [] = take_next ns ns i refl n low is_n in
+    let more_f : take (i + 1) fs ≡ take i fs ++ f ∷ [] = take_next fs fs i refl f (omega (arith, sizes, low)) is_f in
+    let size_n : length (take i ns) ≡ i = length-take-le i ns (omega (arith, low)) in
+    let size_f : length (take i fs) ≡ i = length-take-le i fs (omega (arith, sizes, low)) in
+    let more : IsCheckAmong domain (take i ns ++ n ∷ []) (take i fs ++ f ∷ []) x ↔ (IsCheckAmong domain (take i ns) (take i fs) x ⊎ IsCheckHere domain n f x) =
+    among_more domain (take i ns) (take i fs) n f (size_f ∙ sym size_n) x in
+    subst (λ a. Contains new x ↔ (Contains old x ⊎ IsCheckAmong domain a (take (i + 1) fs) x)) (sym more_n)
+    (subst (λ b. Contains new x ↔ (Contains old x ⊎ IsCheckAmong domain (take i ns ++ n ∷ []) b x)) (sym more_f) (
+      λ h. elim ((step x).0 h) [
+        | inl m ↦ elim ((before x).0 m) [ inl was ↦ inl was | inr a ↦ inr (more.1 (inl a)) ]
+        | inr here ↦ inr (more.1 (inr here))
+      ],
+      λ h. (step x).1 (elim h [
+        | inl was ↦ inl ((before x).1 (inl was))
+        | inr among ↦ elim (more.0 among) [ inl a ↦ inl ((before x).1 (inr a)) | inr here ↦ inr here ]
+      ]),
+    ))
+
+-- all have been put in
+pub whole : (domain : Object) (named : List NamedConstraint) (all : List (Option ResolvedExpr)) (ns : List NamedConstraint) (fs : List (Option ResolvedExpr)) (i : ℕ) (old new : List Item) → ns ≡ named → fs ≡ all → length all ≡ length named → length ns ≤ i
+    → ((x : Item) → Contains new x ↔ (Contains old x ⊎ IsCheckAmong domain (take i ns) (take i fs) x)) → (x : Item) → Contains new x ↔ (Contains old x ⊎ IsCheckAmong domain named all x)
+whole domain named all ns fs i old new same_n same_f sizes done members x =
+    let size_n : length ns ≡ length named = ap length same_n in
+    let size_f : length fs ≡ length all = ap length same_f in
+    subst (λ a. Contains new x ↔ (Contains old x ⊎ IsCheckAmong domain a all x)) (take_all i ns done ∙ same_n)
+    (subst (λ b. Contains new x ↔ (Contains old x ⊎ IsCheckAmong domain (take i ns) b x)) (take_all i fs (omega (arith, size_f, size_n, sizes, done)) ∙ same_f) (members x))

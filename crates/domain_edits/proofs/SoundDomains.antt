@@ -42,15 +42,15 @@ use Rattle.domain_edits.specs.Checks.{IsCheckMade, IsCheckOf, check_scope}
 use Rattle.domain_edits.specs.CreatedDomains.{IsDomainMade}
 
 -- what occurs settles the sorted list of needs
-needs_settled : (occurs : Need → Type 0) (a b : List Need) → AreNeeds a occurs → AreNeeds b occurs → a ≡ b
+pub needs_settled : (occurs : Need → Type 0) (a b : List Need) → AreNeeds a occurs → AreNeeds b occurs → a ≡ b
 needs_settled occurs a b p q =
     rising_same need_cmp need_cmp-total a b (IsRising-from_pairs need_cmp a p.order) (IsRising-from_pairs need_cmp b q.order)
     (λ n. ((λ h. (q.members n).1 ((p.members n).0 h)), (λ h. (p.members n).1 ((q.members n).0 h))))
 
-typed_is : (a b : TypedExpr) → ◌≡◌ {A = Outcome TypedExpr} (Ok a) (Ok b) → a ≡ b
+pub typed_is : (a b : TypedExpr) → ◌≡◌ {A = Outcome TypedExpr} (Ok a) (Ok b) → a ≡ b
 typed_is a b e = cc
 
-same_written : (k : TableConstraintKind) (a b : Expr) → k ≡ kinds.Check a → k ≡ kinds.Check b → a ≡ b
+pub same_written : (k : TableConstraintKind) (a b : Expr) → k ≡ kinds.Check a → k ≡ kinds.Check b → a ≡ b
 same_written k a b p q = let both : kinds.Check a ≡ kinds.Check b = sym p ∙ q in cc
 
 -- ---- an edit that only adds

@@ -14,6 +14,7 @@ ghost use Rattle.domain_edits.specs.CreatedDomains as spec;
 ghost use Rattle.domain_edits.specs.Found as found;
 ghost use Rattle.domain_edits.specs.Made.{made_of};
 
+use crate::new_domain::NewDomain;
 use crate::checks::{all_found, has_none, needs_of, parts_of, put_checks};
 use cat_items::{Catalogue, Domain, Edit, EditError, Item, Need, Part as Place, Refusal, Shared, Who, places};
 use edit_rules::{object_in, path_of, put, test_schema};
@@ -21,7 +22,7 @@ use sql_tree::{CreateDomain, Default, DomainCheck, Items, Name, Object, SqlType}
 use statement_steps::{Making, edit_of};
 use std::alloc::{AllocError, Global};
 use table_names::{given_names, name_constraints, test_new_constraints, test_repeated};
-use table_parts::{Part, class_of, default_class};
+use table_parts::{class_of, default_class};
 use view_deps::ResolvedExpr;
 
 /// Whether a default is of another class than a type.
@@ -55,39 +56,26 @@ fn test_new_domain(c: &Catalogue, domain: &Object) -> Result<(), EditError>
     Err(EditError::Refused(Refusal::NameExists { path }))
 }
 
-/// What CREATE DOMAIN makes: its checks are still without names and conditions.
-#[derive(Drop)]
-struct NewDomain<'a> {
-    domain: Object,
-    sort: SqlType,
-    default: &'a Option<Default>,
-    checks: &'a Items<DomainCheck>,
-    parts: Items<Part>,
-    ghost are_parts: { parts ≡ checks.parts_of checks.now },
-}
-
 /// What the conditions of its checks came to, and what they need.
 #[derive(Drop)]
-struct FoundChecks {
-    all: Items<Option<ResolvedExpr>>,
-    needs: Items<Need>,
+pub struct FoundChecks {
+    pub all: Items<Option<ResolvedExpr>>,
+    pub needs: Items<Need>,
 }
 
-impl<'a> NewDomain<'a> {
-    /// The domain itself.
-    fn made(&self) -> Result<Domain, AllocError>
-        ensures { IfOk result (λ d. d ≡ made_of self.now) }
-    {
-        let default = match self.default {
-            None => None,
-            Some(default) => Some(default.copy()?),
-        };
-        Ok(Domain {
-            domain: self.domain.copy()?,
-            sort: self.sort,
-            default,
-        })
-    }
+/// The domain itself.
+fn made_domain(new: &NewDomain<'_>) -> Result<Domain, AllocError>
+    ensures { IfOk result (λ d. d ≡ made_of new.now) }
+{
+    let default = match new.default {
+        None => None,
+        Some(default) => Some(default.copy()?),
+    };
+    Ok(Domain {
+        domain: new.domain.copy()?,
+        sort: new.sort,
+        default,
+    })
 }
 
 impl<'a> Making for NewDomain<'a> {
@@ -102,7 +90,8 @@ impl<'a> Making for NewDomain<'a> {
         × ((need : AnyNeed) → Contains made.needs need ↔ checks.NeededByChecks c who d.sort d.checks.now need) };
 
     fn test_tree(&self, alloc: Global, c: &Catalogue, who: &Who) -> Result<(), EditError> {
-        let _ = (c, who);
+        let _ = c;
+        let _ = who;
         test_repeated(alloc, &self.domain, &self.parts)
     }
 
@@ -112,7 +101,8 @@ impl<'a> Making for NewDomain<'a> {
     }
 
     fn schema(&self, c: &Catalogue, who: &Who) -> &Name {
-        let _ = (c, who);
+        let _ = c;
+        let _ = who;
         &self.domain.schema
     }
 
@@ -124,7 +114,8 @@ impl<'a> Making for NewDomain<'a> {
     }
 
     fn rules(&self, alloc: Global, c: &Catalogue, who: &Who, named: Items<Option<ResolvedExpr>>) -> Result<FoundChecks, EditError> {
-        let _ = (c, who);
+        let _ = c;
+        let _ = who;
         if is_misfit(self.default, self.sort) || has_none(&named) {
             return Err(EditError::Refused(Refusal::TypeMismatch));
         }
@@ -133,7 +124,8 @@ impl<'a> Making for NewDomain<'a> {
     }
 
     fn needs<'b>(&self, c: &Catalogue, who: &Who, made: &'b FoundChecks) -> &'b Items<Need> {
-        let _ = (c, who);
+        let _ = c;
+        let _ = who;
         &made.needs
     }
 
@@ -141,7 +133,7 @@ impl<'a> Making for NewDomain<'a> {
         let _ = who;
         let named = name_constraints(alloc, c, &self.domain.schema, &self.parts)?;
         let mut added = Catalogue::of_sorted(Vec::new(alloc));
-        put(&mut added, Item::Domain(Shared::new(alloc, self.made()?)?))?;
+        put(&mut added, Item::Domain(Shared::new(alloc, made_domain(self)?)?))?;
         put_checks(alloc, &mut added, &self.domain, &named, &made.all)?;
         Ok(Edit {
             target: Items::new(alloc),

@@ -3,5 +3,6 @@
 
 mod checks;
 mod creating;
+mod new_domain;
 
 pub use creating::create_domain;

@@ -4,9 +4,6 @@ use Rattle.std.specs.Prelude.{if◌then◌else◌}
 use Rattle.std.specs.declared.result.Result.{Result}
 use Rattle.sql_tree.specs.declared.expr.Expr.{Expr}
 use Rattle.sql_tree.specs.declared.rights.Action.TheVariants.{References}
-use Rattle.cat_items.specs.declared.edit.EditError.{EditError}
-use Rattle.cat_items.specs.declared.edit.EditError.TheVariants.{Refused, Memory}
-use Rattle.cat_items.specs.declared.edit.Refusal.{Refusal}
 use Rattle.cat_items.specs.declared.edit.Refusal.TheVariants as refusals
 use Rattle.cat_items.specs.declared.item.Item.{Item}
 use Rattle.cat_items.specs.Good.{IsGood}
@@ -21,7 +18,7 @@ use Rattle.type_rules.specs.Rules.{is_boolean}
 use Rattle.view_deps.specs.declared.resolve.ResolvedExpr.{ResolvedExpr}
 use Rattle.view_deps.specs.Described.{known_of}
 use Rattle.view_deps.specs.Views.{IsResolvedExpr}
-use Rattle.constraint_deps.specs.Conditions.{boolean_or_none, condition}
+use Rattle.constraint_deps.specs.Conditions.{condition}
 use Rattle.edit_rules.specs.First.{First, IsTested, Passes}
 use Rattle.edit_rules.proofs.FirstLaws.{passes_one}
 use Rattle.resolved_trees.proofs.Columns.{good_has_columns}

@@ -1,0 +1,153 @@
+-- Domains under their names, errors of tests, and lists that grow.
+use Rattle.std.proofs.Common.{◌≡◌, ◌≢◌, ◌⊎◌, ◌↔◌, ℕ, ◌+◌, ◌<◌, ◌≤◌, List, [], ◌∷◌, ◌++◌, length, take, get_or, drop, suc, Option, None, Some, Ok, Err, ap, sym, subst, refl, ◌∙◌, inl, inr, arith}
+use Rattle.std.specs.List.{AllPairs, Any, Contains}
+use Rattle.std.specs.Ordering.{ordering_reverse, ordering_then}
+use Rattle.std.specs.Result.{IsErrAnd}
+use Rattle.std.specs.Prelude.{OnOk}
+use Rattle.std.specs.declared.cmp.Ordering.{Ordering}
+use Rattle.std.specs.declared.cmp.Ordering.TheVariants.{Less, Equal, Greater}
+use Rattle.std.specs.declared.result.Result.{Result}
+use Rattle.std.proofs.lemmas.List.{get_or-take, get_or_default, length-take-le, take_all, take_more}
+use Rattle.std.proofs.lemmas.List.Elements.{Contains-append_cases, Contains-append_left, Contains-append_right, Contains-push, Contains-push_cases}
+use Rattle.sql_names.specs.Names.{name_cmp-IsAntisymmetric}
+use Rattle.sql_names.specs.declared.object.Object.{Object}
+use Rattle.cat_items.specs.declared.edit.EditError.{EditError}
+use Rattle.cat_items.specs.declared.edit.EditError.TheVariants.{Refused, Memory}
+use Rattle.cat_items.specs.declared.edit.Refusal.{Refusal}
+use Rattle.cat_items.specs.declared.item.DomainCheck.{DomainCheck}
+use Rattle.cat_items.specs.declared.item.Item.{Item}
+use Rattle.cat_items.specs.declared.item.Item.TheVariants as item
+use Rattle.cat_items.specs.declared.need.Need.{Need}
+use Rattle.cat_items.specs.Order.{item_cmp, key_cmp, kind_of, name_cmp, object_cmp}
+use Rattle.cat_items.specs.Ranges.{IsDomainOf}
+use Rattle.cat_items.specs.Reach.{Has}
+use Rattle.cat_items.specs.Rights.{path_of, IsDomain}
+use Rattle.cat_items.proofs.OrderLemmas.{item_cmp-total}
+use Rattle.role_graph.proofs.MeetingLemmas.{same_object}
+use Rattle.view_deps.specs.declared.resolve.ResolvedExpr.{ResolvedExpr}
+use Rattle.edit_rules.proofs.Lists.{take_next}
+use Rattle.edit_rules.specs.First.{HasPassed, IsTested}
+use Rattle.table_parts.specs.declared.marks.Mark.{Mark}
+use Rattle.table_parts.specs.declared.marks.Mark.TheVariants as marks
+use Rattle.table_parts.specs.Marks.{IsRepeated, MarksDiffer}
+use Rattle.table_parts.proofs.Repeats.{differ_all, differ_begin, differ_more, parted_at}
+use Rattle.table_names.specs.declared.named.NamedConstraint.{NamedConstraint}
+use Rattle.table_names.specs.Named.{HaveOwnNames}
+use Rattle.table_definitions.proofs.MadeItems.{kind_and_key}
+use Rattle.domain_edits.specs.Found.{Asks, IsCheckBy, IsCheckHere}
+
+-- ---- names
+
+lies : (o : Object) (y : Item) → IsDomainOf o y → IsDomain (path_of o) y
+lies o (item.Domain d) e = ap path_of (sym e)
+lies o y e = absurd e
+
+named_so : (o : Object) (y : Item) → IsDomain (path_of o) y → IsDomainOf o y
+named_so o (item.Domain d) e = sym (same_object o d.domain e)
+named_so o y e = absurd e
+
+pub domain_there : (c : List Item) (o : Object) → Has c (IsDomainOf o) ↔ Has c (IsDomain (path_of o))
+domain_there c o = (λ h. (h.0, h.1, lies o h.0 h.2), λ h. (h.0, h.1, named_so o h.0 h.2))
+
+-- where no mark is the first that comes twice, marks differ
+differ_below : (all : List Mark) → ((mark : Mark) → IsRepeated all mark → ⊥) → (n : ℕ) → n ≤ length all → MarksDiffer (take n all)
+differ_below all none 0 low = differ_begin all
+differ_below all none (suc n) low =
+    let before = differ_below all none n (omega (arith, low)) in
+    let x : Mark = get_or all n marks.Primary in
+    let within : n < length all = omega (arith, low) in
+    let here : x ≡ get_or all n x = get_or_default all n marks.Primary x within in
+    let new : Contains (take n all) x → ⊥ = λ again. none x (record { before = take n all; after = drop (n + 1) all; parts = parted_at all n x within here; differ = before; again = again }) in
+    subst (λ k. MarksDiffer (take k all)) (let same : n + 1 ≡ suc n = omega arith in same) (differ_more all n x within here before new)
+
+pub marks_differ : (all : List Mark) → ((mark : Mark) → IsRepeated all mark → ⊥) → MarksDiffer all
+marks_differ all none = differ_all all (length all) (omega arith) (differ_below all none (length all) (omega arith))
+
+-- ---- errors
+
+pub error_passes : {T : Type 0} (tests : List (Refusal → Type 0)) (Done : T → Type 0) (e : EditError) → IsTested tests Done (Err e) → HasPassed {T = T} tests (Err e)
+error_passes tests Done (Refused r) h = h
+error_passes tests Done Memory h = h
+
+pub exit_tested : {U : Type 0} (tests : List (Refusal → Type 0)) (Done : U → Type 0) (e : EditError) (exit : Result U EditError) → IsErrAnd exit (λ x. x ≡ e) → HasPassed {T = U} tests exit → IsTested tests Done exit
+exit_tested tests Done e (Ok v) is h = absurd is
+exit_tested tests Done e (Err (Refused r)) is h = h
+exit_tested tests Done e (Err Memory) is h = h
+
+pub on_ok : {T E : Type 0} (r : Result T E) (P Q : Type 0) → (P → Q) → OnOk r P → OnOk r Q
+on_ok (Ok v) P Q f h = f h
+on_ok (Err e) P Q f h = h
+
+-- ---- needs
+
+pub some_gains : (f : Option ResolvedExpr) (r : ResolvedExpr) (old new : List Need) (need : Need) → f ≡ Some r → new ≡ old ++ r.needs → Contains new need ↔ (Contains old need ⊎ Asks need f)
+some_gains f r old new need is put = subst (λ g. Contains new need ↔ (Contains old need ⊎ Asks need g)) (sym is) (
+  λ h. Contains-append_cases old r.needs need (subst (λ l. Contains l need) put h),
+  λ h. subst (λ l. Contains l need) (sym put) (elim h [ inl was ↦ Contains-append_left old r.needs need was | inr asks ↦ Contains-append_right old r.needs need asks ]),
+)
+
+pub none_gains : (f : Option ResolvedExpr) (old new : List Need) (need : Need) → ((r : ResolvedExpr) → f ≡ Some r → ⊥) → new ≡ old → Contains new need ↔ (Contains old need ⊎ Asks need f)
+none_gains None old new need no same = (λ h. inl (subst (λ l. Contains l need) same h), λ h. elim h [ inl was ↦ subst (λ l. Contains l need) (sym same) was | inr asks ↦ absurd asks ])
+none_gains (Some r) old new need other same = absurd (other r refl)
+
+push_any : {X : Type 0} (P : X → Type 0) (xs : List X) (y : X) → Any P (xs ++ y ∷ []) ↔ (Any P xs ⊎ P y)
+push_any P xs y = (to, from)
+  where
+    to : Any P (xs ++ y ∷ []) → Any P xs ⊎ P y
+    to h = elim (Contains-push_cases xs y h.1 (h.0, h.2, h.3)) [ inl in_xs ↦ inl (in_xs.0, h.1, in_xs.1, in_xs.2, h.4) | inr e ↦ inr (subst P (sym e) h.4) ]
+
+    from : Any P xs ⊎ P y → Any P (xs ++ y ∷ [])
+    from (inl h) = let there = Contains-append_left xs (y ∷ []) h.1 (h.0, h.2, h.3) in (there.0, h.1, there.1, there.2, h.4)
+    from (inr p) = let there = Contains-push xs y in (there.0, y, there.1, there.2, p)
+
+pub asked_more : (all shown : List (Option ResolvedExpr)) (i : ℕ) (x : Option ResolvedExpr) (old new : List Need) (need : Need) → shown ≡ all → i < length shown → x ≡ get_or shown i x
+    → Contains old need ↔ Any (Asks need) (take i all) → Contains new need ↔ (Contains old need ⊎ Asks need x) → Contains new need ↔ Any (Asks need) (take (i + 1) all)
+asked_more all shown i x old new need same low is before gains = subst (λ l. Contains new need ↔ Any (Asks need) l) (sym (take_next all shown i same x low is)) (
+  λ h. (push_any (Asks need) (take i all) x).1 (elim (gains.0 h) [ inl was ↦ inl (before.0 was) | inr asks ↦ inr asks ]),
+  λ h. gains.1 (elim ((push_any (Asks need) (take i all) x).0 h) [ inl was ↦ inl (before.1 was) | inr asks ↦ inr asks ]),
+)
+
+-- ---- checks that are put in
+
+both_equal : (a b : Ordering) → ordering_then a b ≡ Equal → (a ≡ Equal) × (b ≡ Equal)
+both_equal Less b e = absurd (let odd : Less ≡ Equal = e in cc)
+both_equal Equal b e = (refl, e)
+both_equal Greater b e = absurd (let odd : Greater ≡ Equal = e in cc)
+
+object_by_key : (a b : Object) → object_cmp a b ≡ Equal → a ≡ b
+object_by_key a b e =
+    let both = both_equal (name_cmp a.schema b.schema) (name_cmp a.name b.name) e in
+    let schemas : a.schema ≡ b.schema = name_cmp-IsAntisymmetric a.schema b.schema both.0 in
+    let names : a.name ≡ b.name = name_cmp-IsAntisymmetric a.name b.name both.1 in
+    λ i. record { schema = schemas i; name = names i }
+
+check_by_key : (x : DomainCheck) (y : Item) → 8 ≡ kind_of y → key_cmp (item.DomainCheck x) y ≡ Equal → (z : DomainCheck) × (y ≡ item.DomainCheck z) × (z.name ≡ x.name)
+check_by_key x (item.DomainCheck z) k e = (z, refl, sym (object_by_key x.name z.name e))
+check_by_key x y k e = absurd (omega (arith, k))
+
+pub check_is_new : (old : List Item) (x : DomainCheck) → ((z : DomainCheck) → Contains old (item.DomainCheck z) → z.name ≢ x.name) → (y : Item) → Contains old y → item_cmp y (item.DomainCheck x) ≡ Equal → y ≡ item.DomainCheck x
+check_is_new old x others y h e =
+    let both = kind_and_key (item.DomainCheck x) y (item_cmp-total.antisymm (item.DomainCheck x) y ∙ ap ordering_reverse e) in
+    let found = check_by_key x y both.0 both.1 in
+    absurd (others found.0 (subst (Contains old) found.1 h) found.2)
+
+pub here_is : (domain : Object) (n : NamedConstraint) (r : ResolvedExpr) (k : DomainCheck) → IsCheckBy domain n r k → (x : Item) → (x ≡ item.DomainCheck k) ↔ IsCheckHere domain n (Some r) x
+here_is domain n r k by x = (λ e. subst (IsCheckHere domain n (Some r)) (sym e) by, from x)
+  where
+    from : (x : Item) → IsCheckHere domain n (Some r) x → x ≡ item.DomainCheck k
+    from (item.DomainCheck z) of =
+        let names : z.name ≡ k.name = of.called ∙ sym by.called in
+        let domains : z.domain ≡ k.domain = of.domain_is ∙ sym by.domain_is in
+        let trees : z.cond ≡ k.cond = of.condition_is ∙ sym by.condition_is in
+        let needs : z.needs ≡ k.needs = of.needs ∙ sym by.needs in
+        λ i. item.DomainCheck (record { name = names i; domain = domains i; cond = trees i; needs = needs i })
+    from x of = absurd of
+
+-- a constraint at a place has none of the names before it
+pub apart : (named : List NamedConstraint) (i : ℕ) (m : NamedConstraint) → HaveOwnNames named → i < length named → m ≡ get_or named i m → (n : NamedConstraint) → Contains (take i named) n → n.name ≡ m.name → ⊥
+apart named i m own low is n h e =
+    let size : length (take i named) ≡ i = length-take-le i named (omega (arith, low)) in
+    let before : h.0 < i = omega (arith, h.1, size) in
+    let there : get_or named h.0 n ≡ n = sym (get_or-take named i h.0 n before) ∙ h.2 in
+    let here : get_or named i n ≡ m = get_or_default named i n m low ∙ sym is in
+    own h.0 i n before low (ap (λ (z : NamedConstraint). z.name) there ∙ e ∙ ap (λ (z : NamedConstraint). z.name) (sym here))
