@@ -1,23 +1,16 @@
 //! Catalogues are those of a book after a script. The numbers of items were counted by hand.
 
 ghost use Rattle.std.specs.Prelude.{◌≡◌, IfOk};
-ghost use Rattle.cat_items.specs.Good.{IsGood};
-ghost use Rattle.catalogue_edits.specs.Statements.{IsBuiltEdit};
 ghost use Rattle.statement_forms.specs.Written.{IsWritten};
 
 use crate::cases::{CYCLE, EDITS, GRANTED, RESTING, ROLES};
 use cat_engine::{Book, Reply};
 use cat_items::{
-    Auth, Catalogue, Edit, EditError, Item, Limits, Marks, Shared, View, Who, find, item_text,
-    need_text, same_item,
+    Auth, Catalogue, Item, Limits, Marks, Shared, View, Who, find, item_text, need_text, same_item,
 };
-use catalogue_edits::is_edit;
-use define_edit::edit_create;
-use drop_edit::edit_drop;
+use catalogue_edits::{Plan, is_edit, plan_of};
 use grant_chain::survivors;
-use grant_edit::{edit_grant, edit_revoke};
 use item_index::Steps;
-use role_edit::edit_role;
 use role_graph::{Walk, applicable, enabled, makes_cycle, reaches};
 use sql_grammar::statement;
 use sql_tree::{Items, Name, Object, Statement, Text};
@@ -56,30 +49,6 @@ fn read(alloc: Global, text: &[u8]) -> Result<Statement, Fail>
     }
 }
 
-fn edit_of(
-    alloc: Global,
-    c: &Catalogue,
-    who: &Who,
-    statement: &Statement,
-) -> Result<Edit, EditError>
-    requires good { IsGood c.now.items }
-    requires built { IsBuiltEdit statement.now }
-    requires written { IsWritten statement.now }
-{
-    match statement {
-        Statement::CreateSchema(_) => edit_create(alloc, c, who, statement),
-        Statement::CreateTable(_) => edit_create(alloc, c, who, statement),
-        Statement::DropObject(_) => edit_drop(alloc, c, who, statement),
-        Statement::DropRole(_) => edit_drop(alloc, c, who, statement),
-        Statement::CreateRole(_) => edit_role(alloc, c, who, statement),
-        Statement::GrantRoles(_) => edit_role(alloc, c, who, statement),
-        Statement::RevokeRoles(_) => edit_role(alloc, c, who, statement),
-        Statement::GrantPrivileges(_) => Ok(edit_grant(alloc, c, who, statement)?.edit),
-        Statement::RevokePrivileges(_) => edit_revoke(alloc, c, who, statement),
-        _ => unreachable!(),
-    }
-}
-
 /// How many items the edit of a statement destroys and how many it adds; none of these statements changes one.
 fn counted(alloc: Global, book: &Book, text: &str) -> Result<String, Fail> {
     let statement = read(alloc, text.as_bytes())?;
@@ -89,7 +58,7 @@ fn counted(alloc: Global, book: &Book, text: &str) -> Result<String, Fail> {
     if !is_edit(&statement) {
         return Err("nothing to edit")?;
     }
-    let Ok(edit) = edit_of(alloc, book.catalogue(), who, &statement) else {
+    let Ok(Plan { edit, .. }) = plan_of(alloc, book.catalogue(), who, &statement) else {
         return Err("no edit")?;
     };
     if !edit.changed.is_empty() {

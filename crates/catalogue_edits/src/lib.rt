@@ -8,5 +8,6 @@ mod revisions;
 mod warning;
 
 pub use laws::{a_refusal_is_settled, a_revision_is_settled, edits_are_sound, edits_leave_users};
+pub use plan::{Plan, plan_of};
 pub use revisions::{is_edit, revise};
 pub use warning::Warning;

@@ -97,7 +97,8 @@ fn dropping(alloc: Global, c: &Catalogue, who: &Who, parts: &DropObject) -> Resu
     Ok(silent(edit, restrict))
 }
 
-/// What a statement does to a catalogue, or the first of its refusals by the catalogue as it is.
+/// What a statement does to a catalogue by itself, or the first of its refusals by the catalogue as it is (SQL:2003 part 2, 11 and 12):
+/// what RESTRICT and the limits refuse is `revise`'s to tell. `Memory` is want of memory. The catalogue stays as it is.
 #[tactic(auto, unfolding(crate::specs::Kinds::kind_of))]
 pub fn plan_of(
     alloc: Global,

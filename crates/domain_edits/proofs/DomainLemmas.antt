@@ -28,9 +28,8 @@ use Rattle.view_deps.specs.declared.resolve.ResolvedExpr.{ResolvedExpr}
 use Rattle.edit_rules.proofs.Lists.{take_next}
 use Rattle.edit_rules.specs.First.{HasPassed, IsTested}
 use Rattle.table_parts.specs.declared.marks.Mark.{Mark}
-use Rattle.table_parts.specs.declared.marks.Mark.TheVariants as marks
 use Rattle.table_parts.specs.Marks.{IsRepeated, MarksDiffer}
-use Rattle.table_parts.proofs.Repeats.{differ_all, differ_begin, differ_more, parted_at}
+use Rattle.statement_steps.proofs.Repeats.{differ_without}
 use Rattle.table_names.specs.declared.named.NamedConstraint.{NamedConstraint}
 use Rattle.table_names.specs.Named.{HaveOwnNames}
 use Rattle.table_definitions.proofs.MadeItems.{kind_and_key}
@@ -50,18 +49,8 @@ pub domain_there : (c : List Item) (o : Object) → Has c (IsDomainOf o) ↔ Has
 domain_there c o = (λ h. (h.0, h.1, lies o h.0 h.2), λ h. (h.0, h.1, named_so o h.0 h.2))
 
 -- where no mark is the first that comes twice, marks differ
-differ_below : (all : List Mark) → ((mark : Mark) → IsRepeated all mark → ⊥) → (n : ℕ) → n ≤ length all → MarksDiffer (take n all)
-differ_below all none 0 low = differ_begin all
-differ_below all none (suc n) low =
-    let before = differ_below all none n (omega (arith, low)) in
-    let x : Mark = get_or all n marks.Primary in
-    let within : n < length all = omega (arith, low) in
-    let here : x ≡ get_or all n x = get_or_default all n marks.Primary x within in
-    let new : Contains (take n all) x → ⊥ = λ again. none x (record { before = take n all; after = drop (n + 1) all; parts = parted_at all n x within here; differ = before; again = again }) in
-    subst (λ k. MarksDiffer (take k all)) (let same : n + 1 ≡ suc n = omega arith in same) (differ_more all n x within here before new)
-
 pub marks_differ : (all : List Mark) → ((mark : Mark) → IsRepeated all mark → ⊥) → MarksDiffer all
-marks_differ all none = differ_all all (length all) (omega arith) (differ_below all none (length all) (omega arith))
+marks_differ all none = differ_without all (λ mark again. none mark (record { before = again.before; after = again.after; parts = again.parts; differ = again.differ; again = again.again }))
 
 -- ---- errors
 

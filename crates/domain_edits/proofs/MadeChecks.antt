@@ -29,7 +29,8 @@ use Rattle.table_definitions.proofs.ListMembers.{contains_from_any}
 use Rattle.table_definitions.proofs.MadeItems.{kind_and_key}
 use Rattle.domain_edits.specs.Checks.{IsCheckMade, IsCheckOf, check_scope, outcome_of, parts_of}
 use Rattle.domain_edits.specs.Found.{AreFound, IsCheckAmong, IsCheckBy, IsCheckHere}
-use Rattle.domain_edits.proofs.SoundDomains.{needs_settled, same_written, typed_is}
+use Rattle.statement_steps.proofs.Additions.{needs_settled}
+use Rattle.domain_edits.proofs.SoundDomains.{same_written, typed_is}
 
 no_type : (t : TypedExpr) → ◌≡◌ {A = Outcome TypedExpr} (Ok t) (Err TypeMismatch) → ⊥
 no_type t e = cc

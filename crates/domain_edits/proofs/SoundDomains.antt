@@ -1,7 +1,6 @@
 -- A domain is made soundly with its checks.
 use Rattle.std.proofs.Common.{◌≡◌, ◌≢◌, ℕ, List, Some, Ok, ap, sym, subst, ◌∙◌, inl, inr, arith}
 use Rattle.std.specs.List.{Contains}
-use Rattle.finite_chains.proofs.Members.{Contains-nil}
 use Rattle.sql_names.specs.declared.object.Object.{Object}
 use Rattle.sql_names.specs.declared.sort.SqlType.{SqlType}
 use Rattle.sql_tree.specs.declared.expr.Expr.{Expr}
@@ -13,25 +12,21 @@ use Rattle.cat_items.specs.declared.item.Domain.{Domain}
 use Rattle.cat_items.specs.declared.item.DomainCheck.{DomainCheck}
 use Rattle.cat_items.specs.declared.item.Item.{Item}
 use Rattle.cat_items.specs.declared.item.Item.TheVariants as item
-use Rattle.cat_items.specs.declared.need.Need.{Need}
-use Rattle.cat_items.specs.Catalogues.{IsInOrder}
 use Rattle.cat_items.specs.Good.{IsGood}
 use Rattle.cat_items.specs.Needs.{AreNeeds, NeededByCondition}
-use Rattle.cat_items.specs.Order.{need_cmp}
 use Rattle.cat_items.specs.Pieces.{AreFormed, AreResolved, IsType, default_pieces, expr_pieces}
 use Rattle.cat_items.specs.Reach.{Has}
 use Rattle.cat_items.specs.Rights.{path_of, IsDomain}
 use Rattle.cat_items.specs.Shape.{NameSet, name_of}
-use Rattle.cat_items.proofs.OrderLemmas.{need_cmp-total}
-use Rattle.finite_chains.proofs.StrictOrders.{IsRising-from_pairs, rising_same}
 use Rattle.name_scopes.specs.Outcomes.{Outcome}
 use Rattle.query_types.specs.declared.whole.TypedExpr.{TypedExpr}
-use Rattle.edit_rules.specs.Chosen.{IsAdding}
 use Rattle.edit_rules.specs.Names.{IsConstraint}
-use Rattle.edit_laws.specs.Forms.{HasForm, HasFreeName}
+use Rattle.edit_laws.specs.Forms.{HasFreeName}
 use Rattle.edit_laws.specs.Proper.{IsProperItem, IsProperBeside}
 use Rattle.edit_laws.specs.Sound.{IsSound}
-use Rattle.edit_laws.proofs.FormLaws.{number_in, path_in, same_object, sound_form}
+use Rattle.edit_laws.proofs.FormLaws.{number_in, path_in, same_object}
+use Rattle.statement_steps.specs.Steps.{MakesEdit, Nothing}
+use Rattle.statement_steps.proofs.Additions.{needs_settled, sound_addition}
 use Rattle.table_names.specs.declared.named.NamedConstraint.{NamedConstraint}
 use Rattle.table_names.specs.Named.{HaveOwnNames}
 use Rattle.table_keys.specs.Keys.{beside}
@@ -41,43 +36,11 @@ use Rattle.edit_conditions.proofs.Found.{condition_resolved}
 use Rattle.domain_edits.specs.Checks.{IsCheckMade, IsCheckOf, check_scope}
 use Rattle.domain_edits.specs.CreatedDomains.{IsDomainMade}
 
--- what occurs settles the sorted list of needs
-pub needs_settled : (occurs : Need → Type 0) (a b : List Need) → AreNeeds a occurs → AreNeeds b occurs → a ≡ b
-needs_settled occurs a b p q =
-    rising_same need_cmp need_cmp-total a b (IsRising-from_pairs need_cmp a p.order) (IsRising-from_pairs need_cmp b q.order)
-    (λ n. ((λ h. (q.members n).1 ((p.members n).0 h)), (λ h. (p.members n).1 ((q.members n).0 h))))
-
 pub typed_is : (a b : TypedExpr) → ◌≡◌ {A = Outcome TypedExpr} (Ok a) (Ok b) → a ≡ b
 typed_is a b e = cc
 
 pub same_written : (k : TableConstraintKind) (a b : Expr) → k ≡ kinds.Check a → k ≡ kinds.Check b → a ≡ b
 same_written k a b p q = let both : kinds.Check a ≡ kinds.Check b = sym p ∙ q in cc
-
--- ---- an edit that only adds
-
-module _ (c : List Item) (P : Item → Type 0) (edit : Edit) (good : IsGood c) (is : IsAdding P edit) where
-  none_taken : (x : Item) → Contains edit.target x → ⊥
-  none_taken x h = Contains-nil x (subst (λ l. Contains l x) is.target h)
-
-  none_changed : (x : Item) → Contains edit.changed x → ⊥
-  none_changed x h = Contains-nil x (subst (λ l. Contains l x) is.changed h)
-
-  pub sound_adding : ((x y : Item) (name : NameSet × List (List ℕ)) → P x → P y → name_of x ≡ Some name → name_of y ≡ Some name → x ≡ y) → ((x : Item) → P x → HasFreeName c x) → ((x : Item) → P x → IsProperItem x)
-      → ((x : Item) → P x → IsProperBeside c edit x) → IsSound c edit
-  sound_adding differ free items beside_it = sound_form c edit good (record {
-    target_order = subst IsInOrder (sym is.target) (λ i j d low high. absurd (omega (arith, high)));
-    target = λ x h. absurd (none_taken x h);
-    changed_order = subst IsInOrder (sym is.changed) (λ i j d low high. absurd (omega (arith, high)));
-    changed = λ x h. absurd (none_changed x h);
-    added_order = is.added.order;
-    apart = λ x h. absurd (none_changed x h);
-    gone = λ edited of x h. absurd (none_taken x h);
-    differ = λ x y n h k nx ny. differ x y n ((is.added.members x).0 h) ((is.added.members y).0 k) nx ny;
-    own_names = λ x h. inl (free x ((is.added.members x).0 h));
-    items = λ x h. items x ((is.added.members x).0 h);
-    beside = λ x h. beside_it x ((is.added.members x).0 h);
-    views = λ x t. absurd (elim t [ inl h ↦ none_taken (item.Column x) h | inr h ↦ none_changed (item.Column x) h ]);
-  })
 
 -- ---- checks
 
@@ -112,7 +75,7 @@ pub record AreFormedChecks (c : List Item) (domain : Object) (named : List Named
 -- ---- CREATE DOMAIN
 
 module _ (c : List Item) (who : Who) (d : Domain) (named : List NamedConstraint) (edit : Edit) (good : IsGood c) (new : ¬ (Has c (IsDomain (path_of d.domain))))
-    (types : IsType d.sort × AreResolved (default_pieces d.default)) (formed : AreFormedChecks c d.domain named) (is : IsAdding (IsDomainMade c who d named) edit) where
+    (types : IsType d.sort × AreResolved (default_pieces d.default)) (formed : AreFormedChecks c d.domain named) (is : MakesEdit c Nothing Nothing (IsDomainMade c who d named) edit) where
   free_check : (x : DomainCheck) → IsCheckMade c who d.sort d.domain named x → HasFreeName c (item.DomainCheck x)
   free_check x p =
       let n = contains_from_any (IsCheckOf c who d.sort d.domain x) named p in
@@ -153,4 +116,4 @@ module _ (c : List Item) (who : Who) (d : Domain) (named : List NamedConstraint)
   beside_made x p = absurd p
 
   pub sound_domain : IsSound c edit
-  sound_domain = sound_adding c (IsDomainMade c who d named) edit good is one_made free_made proper_made beside_made
+  sound_domain = sound_addition c (IsDomainMade c who d named) edit is good one_made free_made proper_made beside_made

@@ -20,7 +20,7 @@ use Rattle.cat_items.specs.Reach.{Has}
 use Rattle.cat_items.specs.Rights.{path_of, IsDomain}
 use Rattle.name_scopes.specs.Known.{same_object}
 use Rattle.view_deps.specs.Described.{first_of}
-use Rattle.edit_rules.specs.Chosen.{IsAdding, IsTaking}
+use Rattle.edit_rules.specs.Chosen.{IsTaking}
 use Rattle.edit_rules.specs.Names.{object_in}
 use Rattle.table_names.specs.declared.named.NamedConstraint.{NamedConstraint}
 use Rattle.table_keys.specs.Keys.{beside}
@@ -73,7 +73,7 @@ IsAddedCheck c who d named (item.DomainCheck x) = IsCheckMade c who d.sort d.dom
 IsAddedCheck c who d named x = ⊥
 
 abbrev pub AddsCheck : List Item → Who → Object → WrittenCheck → Edit → Type 0
-AddsCheck c who name k edit = (d : Domain) × (domain_in c name ≡ Some d) × (named : List NamedConstraint) × AreConstraints c d.domain (parts_of (k ∷ [])) named × IsAdding (IsAddedCheck c who d named) edit
+AddsCheck c who name k edit = (d : Domain) × (domain_in c name ≡ Some d) × (named : List NamedConstraint) × AreConstraints c d.domain (parts_of (k ∷ [])) named × MakesEdit c Nothing Nothing (IsAddedCheck c who d named) edit
 
 abbrev pub add_check : List Item → Who → Object → WrittenCheck → Steps
 add_check c who name k = record {

@@ -16,7 +16,6 @@ use Rattle.cat_items.specs.declared.item.Item.{Item}
 use Rattle.cat_items.specs.declared.item.Item.TheVariants as item
 use Rattle.cat_items.specs.Reach.{Has}
 use Rattle.cat_items.specs.Rights.{path_of, IsDomain}
-use Rattle.edit_rules.specs.Chosen.{IsAdding}
 use Rattle.edit_rules.specs.Names.{object_in, unknown_schema}
 use Rattle.table_parts.specs.declared.classes.Class.{Class}
 use Rattle.table_parts.specs.Classes.{class_of}
@@ -25,7 +24,7 @@ use Rattle.table_names.specs.Refusals.{exists_in, repeated_name}
 use Rattle.table_names.specs.declared.named.NamedConstraint.{NamedConstraint}
 use Rattle.table_rules.specs.Rules.{AreConstraints}
 use Rattle.table_rules.specs.Types.{class_in}
-use Rattle.statement_steps.specs.Steps.{Steps, refusals_of, where_it_is}
+use Rattle.statement_steps.specs.Steps.{MakesEdit, Nothing, Steps, refusals_of, where_it_is}
 use Rattle.domain_edits.specs.Checks.{HasNoType, IsCheckMade, NeededByChecks, parts_of, unresolved_checks}
 
 abbrev pub domain_exists : List Item → Object → Refusal → Type 0
@@ -46,7 +45,7 @@ IsDomainMade c who d named x = ⊥
 
 -- the domain and its checks are added, and nothing else is done
 abbrev pub MakesDomain : List Item → Who → Domain → List WrittenCheck → Edit → Type 0
-MakesDomain c who d checks edit = (named : List NamedConstraint) × AreConstraints c d.domain (parts_of checks) named × IsAdding (IsDomainMade c who d named) edit
+MakesDomain c who d checks edit = (named : List NamedConstraint) × AreConstraints c d.domain (parts_of checks) named × MakesEdit c Nothing Nothing (IsDomainMade c who d named) edit
 
 abbrev pub steps_of_domain : List Item → Who → Domain → List WrittenCheck → Steps
 steps_of_domain c who d checks = record {

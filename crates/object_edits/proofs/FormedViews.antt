@@ -1,5 +1,5 @@
 -- What the grammar, the tests and the catalogue give of a view.
-use Rattle.std.proofs.Common.{◌≡◌, ◌≢◌, ◌⊎◌, ◌<◌, ℕ, suc, false, List, [], ◌∷◌, Ok, length, refl, inl, inr, subst, arith}
+use Rattle.std.proofs.Common.{◌≡◌, ◌≢◌, ◌<◌, ℕ, suc, false, List, [], ◌∷◌, Ok, length, refl, inl, inr, subst, arith}
 use Rattle.std.specs.List.{Contains}
 use Rattle.std.proofs.lemmas.Bool.Decides.{eqb_tells}
 use Rattle.sql_names.specs.NameBytes.{NameBytes}
@@ -36,7 +36,7 @@ use Rattle.statement_steps.specs.Repeated.{repeated_name}
 use Rattle.statement_steps.specs.Steps.{where_it_is}
 use Rattle.statement_steps.proofs.Repeats.{Differ, differ_where_passed}
 use Rattle.statement_steps.proofs.StepLaws.{rules_pass, taken_passes}
-use Rattle.object_edits.specs.CreatedViews.{column_refusals, create_view_refusals, creating_view, names_from, names_of, query_of, query_refusals, too_many_places}
+use Rattle.object_edits.specs.CreatedViews.{create_view_refusals, creating_view, names_from, names_of, query_of, query_refusals, too_many_places}
 
 pub record IsFormedView (c : List Item) (view : Object) (names : List NameBytes) (typed : TypedQuery) : Type 0 where
   pub new : ¬ (Has c (IsTable (path_of view)))

@@ -1,5 +1,5 @@
 -- Views are made soundly, with their columns.
-use Rattle.std.proofs.Common.{◌≡◌, ◌≢◌, ◌⊎◌, inl, inr, ℕ, ◌<◌, ◌≤◌, ◌+◌, List, [], ◌∷◌, length, Option, Some, None, Ok, Err, get_or, refl, ap, sym, subst, ◌∙◌, arith}
+use Rattle.std.proofs.Common.{◌≡◌, ◌⊎◌, inl, inr, ℕ, ◌<◌, ◌≤◌, ◌+◌, List, [], ◌∷◌, length, Option, Some, None, Ok, Err, get_or, refl, ap, sym, subst, ◌∙◌, arith}
 use Rattle.std.specs.List.{Contains, slice_get}
 use Rattle.std.proofs.lemmas.Bool.{cases_lt}
 use Rattle.std.proofs.lemmas.Option.{slice_get_within, get_or_from_slice_get}
@@ -10,7 +10,6 @@ use Rattle.sql_names.specs.declared.sort.SqlType.{SqlType}
 use Rattle.sql_tree.specs.declared.expr.Query.{Query}
 use Rattle.sql_tree.specs.declared.statement.CreateView.{CreateView}
 use Rattle.sql_tree.specs.declared.statement.Statement.TheVariants as statements
-use Rattle.name_scopes.specs.declared.error.ResolveError.{ResolveError}
 use Rattle.name_scopes.specs.Outcomes.{Outcome}
 use Rattle.query_types.specs.declared.whole.TypedQuery.{TypedQuery}
 use Rattle.cat_items.specs.declared.edit.Edit.{Edit}

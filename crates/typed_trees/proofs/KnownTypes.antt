@@ -1,5 +1,5 @@
 -- What references and calls give has a type, and so has all that a good catalogue says of names.
-use Rattle.std.proofs.Common.{◌≡◌, ◌⊎◌, ℕ, Bool, true, false, List, [], ◌∷◌, Option, Some, None, refl, sym, ◌∙◌, ap, subst, inl, inr}
+use Rattle.std.proofs.Common.{◌≡◌, Bool, true, false, List, [], ◌∷◌, Option, Some, None, refl, sym, subst, inl, inr}
 use Rattle.std.specs.Prelude.{flat_map, option_and_then, bytes_eq, if◌then◌else◌}
 use Rattle.std.specs.List.{Contains}
 use Rattle.std.proofs.lemmas.List.Elements.{Contains-append_cases}
@@ -17,14 +17,12 @@ use Rattle.name_scopes.specs.Frames.{Frames, tab_at}
 use Rattle.name_scopes.specs.Known.{Known, column_in, full, same_object, sort_of}
 use Rattle.type_rules.specs.Rules.{all_fit}
 use Rattle.type_rules.specs.TypeParts.{called, param_sorts, reference, returned, routine}
-use Rattle.cat_items.specs.declared.item.Column.{Column}
-use Rattle.cat_items.specs.declared.item.Routine.{Routine}
 use Rattle.cat_items.specs.declared.item.Item.{Item}
 use Rattle.cat_items.specs.declared.item.Item.TheVariants as item
 use Rattle.cat_items.specs.Good.{IsGood}
 use Rattle.cat_items.specs.Pieces.{IsType}
 use Rattle.cat_items.specs.Shape.{HasReturnType}
-use Rattle.view_deps.specs.Described.{columns_in, first_of, is_base_table, is_view, known_of, routines_in, signature_of}
+use Rattle.view_deps.specs.Described.{columns_in, first_of, known_of, routines_in, signature_of}
 use Rattle.view_deps.specs.Views.{query_scope}
 use Rattle.typed_trees.specs.Typed.{HaveTypes}
 use Rattle.typed_trees.proofs.RuleTypes.{HasType, has_type_if, holds_then}

@@ -1,5 +1,5 @@
 -- What the rules of types give is a type: the numbers of each are in their ranges.
-use Rattle.std.proofs.Common.{◌≡◌, ◌⊎◌, ℕ, zero, suc, ◌+◌, ◌-◌, ◌<◌, ◌≤◌, Bool, true, false, List, [], ◌∷◌, ◌++◌, All, length, Option, Some, None, refl, sym, ◌∙◌, ap, subst, inl, inr, length-append, arith}
+use Rattle.std.proofs.Common.{◌≡◌, ℕ, ◌+◌, ◌-◌, ◌<◌, ◌≤◌, Bool, true, false, List, [], ◌∷◌, ◌++◌, length, Option, Some, None, refl, ap, subst, inl, inr, length-append, arith}
 use Rattle.std.specs.Prelude.{◌==◌, ◌&&◌, if◌then◌else◌, min, max, nat_le, option_and_then}
 use Rattle.std.proofs.Math.Nat.{le-max_left, le-min, max-le, min-le_left, min-le_right}
 use Rattle.std.proofs.lemmas.Bool.{eqb-true}
@@ -12,7 +12,7 @@ use Rattle.sql_tree.specs.declared.expr.Additive.{Additive}
 use Rattle.sql_tree.specs.declared.expr.Additive.TheVariants as additives
 use Rattle.sql_tree.specs.declared.expr.Aggregate.{Aggregate}
 use Rattle.sql_tree.specs.declared.expr.Aggregate.TheVariants as aggregates
-use Rattle.type_rules.specs.Rules.{additive, aggregate, arithmetic, cast, concatenation, decimal_type, fraction, is_integer, is_number, is_text, joined, joined_columns, joined_others, joined_pairs, length_of, literal_type, negative, number_type, one_class, scale_of, special_type, total, value_from, whole_type, wider}
+use Rattle.type_rules.specs.Rules.{additive, aggregate, arithmetic, cast, concatenation, decimal_type, fraction, is_integer, is_number, is_text, joined, joined_columns, joined_others, joined_pairs, length_of, literal_type, negative, number_type, scale_of, special_type, total, value_from, whole_type, wider}
 use Rattle.cat_items.specs.Pieces.{IsDigit, IsLength, IsNumber, IsType}
 use Rattle.resolved_trees.proofs.Everies.{Every, every_append}
 
@@ -138,7 +138,6 @@ concatenation_typed a b p q =
 pub additive_typed : (by : Additive) (a b : SqlType) → IsType a → IsType b → HasType (additive by a b)
 additive_typed additives.Concatenation a b p q = concatenation_typed a b p q
 additive_typed by a b p q = arithmetic_typed a b p q
-
 
 pub negative_typed : (minus : Bool) (a : SqlType) → IsType a → HasType (negative minus a)
 negative_typed false a p = p

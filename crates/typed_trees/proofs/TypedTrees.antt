@@ -10,7 +10,7 @@ use Rattle.sql_tree.specs.declared.expr.Added.{Added, roll-Added, map-Added}
 use Rattle.sql_tree.specs.declared.expr.Arm.{Arm, roll-Arm, map-Arm}
 use Rattle.sql_tree.specs.declared.expr.Chain.{Chain, roll-Chain, map-Chain}
 use Rattle.sql_tree.specs.declared.expr.Conjunction.{Conjunction, roll-Conjunction, map-Conjunction}
-use Rattle.sql_tree.specs.declared.expr.Expr.{Expr, roll-Expr, map-Expr, ind-Expr}
+use Rattle.sql_tree.specs.declared.expr.Expr.{Expr, roll-Expr, map-Expr}
 use Rattle.sql_tree.specs.declared.expr.Factor.{Factor, roll-Factor, map-Factor}
 use Rattle.sql_tree.specs.declared.expr.Further.{Further, roll-Further, map-Further}
 use Rattle.sql_tree.specs.declared.expr.Multiplied.{Multiplied, roll-Multiplied, map-Multiplied}
@@ -32,16 +32,15 @@ use Rattle.sql_names.specs.declared.column.Reference.{Reference}
 use Rattle.sql_names.specs.declared.column.ObjectName.{ObjectName}
 use Rattle.sql_names.specs.declared.column.TableReference.{TableReference}
 use Rattle.sql_names.specs.NameBytes.{NameBytes}
-use Rattle.sql_names.specs.declared.column.Reference.TheVariants as references
 use Rattle.name_scopes.specs.declared.scope.Scope.{Scope}
 use Rattle.name_scopes.specs.Frames.{Frames}
 use Rattle.name_scopes.specs.Known.{Known}
 use Rattle.type_rules.specs.Rules.{aggregate, negative}
 use Rattle.type_rules.specs.TypeParts.{Typed, all_hold, each, frame, holds, single, tables, united, with_tail}
-use Rattle.query_types.specs.Types.{join, operand, select_item, select_list, tail, added, arm, chain, conjunction, expr, factor, further, multiplied, negation, predicate, query, select, sum, term}
+use Rattle.query_types.specs.Types.{operand, select_item, select_list, tail, added, arm, chain, conjunction, expr, factor, further, multiplied, negation, predicate, query, select, sum, term}
 use Rattle.cat_items.specs.Pieces.{IsResolved, IsType, Pieces, of_group, all_pieces, some_pieces, optional_pieces, expr_pieces, query_pieces}
 use Rattle.view_deps.specs.Views.{query_scope}
-use Rattle.resolved_trees.specs.TreePieces.{join_pieces, operand_pieces, select_item_pieces, select_list_pieces, tail_pieces, added_pieces, arm_pieces, chain_pieces, conjunction_pieces, factor_pieces, further_pieces, multiplied_pieces, negation_pieces, predicate_pieces, select_pieces, sum_pieces, term_pieces}
+use Rattle.resolved_trees.specs.TreePieces.{operand_pieces, select_item_pieces, select_list_pieces, tail_pieces, added_pieces, arm_pieces, chain_pieces, conjunction_pieces, factor_pieces, further_pieces, multiplied_pieces, negation_pieces, predicate_pieces, select_pieces, sum_pieces, term_pieces}
 use Rattle.resolved_trees.proofs.Everies.{Every, every_left, every_right, firsts, spread}
 use Rattle.resolved_trees.proofs.PieceEquations.{pieces_Operand_Number, pieces_Operand_Aggregate, pieces_Operand_Case, pieces_Operand_Cast, pieces_Operand_Subquery, pieces_Operand_Parenthesized, pieces_SelectItem_Expr, pieces_SelectList_Listed, pieces_Added, pieces_Arm, pieces_Conjunction, pieces_Expr, pieces_Factor, pieces_Further, pieces_Multiplied, pieces_Negation, pieces_Predicate, pieces_Query, pieces_Select, pieces_Sum, pieces_Term}
 use Rattle.typed_trees.specs.Typed.{HaveTypes}

@@ -1,7 +1,7 @@
 use Rattle.std.proofs.Common.{subst}
 use Rattle.edit_rules.specs.First.{IsTested}
 use Rattle.statement_steps.specs.Steps.{refusals_of}
-use Rattle.object_edits.specs.CreatedViews.{create_view_refusals, creating_view, IsViewCreation, query_of}
+use Rattle.object_edits.specs.CreatedViews.{creating_view, query_of}
 use Rattle.object_edits.proofs.NamedQueries.{tested_sound}
 use Rattle.object_edits.proofs.views.create_view.Goals as goal
 

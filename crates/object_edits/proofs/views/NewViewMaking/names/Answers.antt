@@ -1,5 +1,4 @@
 use Rattle.std.proofs.Common.{[], ◌∷◌, subst, sym}
-use Rattle.cat_items.specs.declared.edit.Refusal.{Refusal}
 use Rattle.edit_rules.specs.First.{IsTested}
 use Rattle.edit_rules.specs.Names.{unknown_schema}
 use Rattle.edit_rules.proofs.FirstLaws.{exit_of_first, tested_by_others}
