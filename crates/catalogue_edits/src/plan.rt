@@ -13,6 +13,7 @@ ghost use Rattle.catalogue_edits.specs.declared.warning.Warning.TheVariants.{Not
 use crate::warning::Warning;
 use cat_items::{Catalogue, Edit, EditError, Who};
 use define_edit::create_schema;
+use domain_edits::create_domain;
 use drop_edit::{drop_object, drop_role};
 use grant_edit::{Granting, grant, revoke};
 use object_edits::create_view;
@@ -118,6 +119,7 @@ pub fn plan_of(
         }
         Statement::CreateTable(parts) => Ok(silent(create_table(alloc, c, who, parts)?, None)),
         Statement::CreateView(parts) => Ok(silent(create_view(alloc, c, who, parts)?, None)),
+        Statement::CreateDomain(parts) => Ok(silent(create_domain(alloc, c, who, parts)?, None)),
         Statement::DropObject(parts) => dropping(alloc, c, who, parts),
         Statement::CreateRole(parts) => Ok(silent(create_role(alloc, c, who, parts)?, None)),
         Statement::DropRole(role) => Ok(silent(drop_role(alloc, c, who, role)?, Some(true))),

@@ -23,7 +23,7 @@ pub fn is_edit(statement: &Statement) -> bool
     match statement {
         Statement::CreateSchema(parts) => parts.elements.is_empty(),
         Statement::CreateTable(parts) => is_built(&parts.elements),
-        Statement::CreateView(_) => true,
+        Statement::CreateView(_) | Statement::CreateDomain(_) => true,
         Statement::DropObject(parts) => !matches!(parts.kind, DropKind::Domain),
         Statement::CreateRole(_) | Statement::GrantRoles(_) | Statement::RevokeRoles(_) => true,
         Statement::DropRole(_) => true,

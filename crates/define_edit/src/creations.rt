@@ -9,13 +9,14 @@ ghost use Rattle.define_edit.specs.Creations.{IsBuiltCreation, IsCreation, creat
 
 use crate::schemas::create_schema;
 use cat_items::{Catalogue, Edit, EditError, Who};
+use domain_edits::create_domain;
 use object_edits::create_view;
 use sql_tree::Statement;
 use std::alloc::Global;
 use table_definitions::create_table;
 
-/// What CREATE SCHEMA, CREATE TABLE or CREATE VIEW adds to a catalogue, or why it is refused (SQL:2003 part 2, 11.1, 11.3 and 11.22).
-/// `Memory` is want of memory.
+/// What CREATE SCHEMA, CREATE TABLE, CREATE VIEW or CREATE DOMAIN adds to a catalogue, or why it is refused (SQL:2003 part 2, 11.1,
+/// 11.3, 11.22 and 11.24). `Memory` is want of memory.
 pub fn edit_create(
     alloc: Global,
     c: &Catalogue,
@@ -32,6 +33,7 @@ pub fn edit_create(
         Statement::CreateSchema(parts) => create_schema(alloc, c, who, &parts.schema),
         Statement::CreateTable(parts) => create_table(alloc, c, who, parts),
         Statement::CreateView(parts) => create_view(alloc, c, who, parts),
+        Statement::CreateDomain(parts) => create_domain(alloc, c, who, parts),
         _ => unreachable!(),
     }
 }

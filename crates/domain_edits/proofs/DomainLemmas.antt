@@ -1,13 +1,13 @@
 -- Domains under their names, errors of tests, and lists that grow.
-use Rattle.std.proofs.Common.{◌≡◌, ◌≢◌, ◌⊎◌, ◌↔◌, ℕ, ◌+◌, ◌<◌, ◌≤◌, List, [], ◌∷◌, ◌++◌, length, take, get_or, drop, suc, Option, None, Some, Ok, Err, ap, sym, subst, refl, ◌∙◌, inl, inr, arith}
-use Rattle.std.specs.List.{AllPairs, Any, Contains}
+use Rattle.std.proofs.Common.{◌≡◌, ◌≢◌, ◌⊎◌, ◌↔◌, ℕ, ◌+◌, ◌<◌, List, [], ◌∷◌, ◌++◌, length, take, get_or, Option, None, Some, Ok, Err, ap, sym, subst, refl, ◌∙◌, inl, inr, arith}
+use Rattle.std.specs.List.{Any, Contains}
 use Rattle.std.specs.Ordering.{ordering_reverse, ordering_then}
 use Rattle.std.specs.Result.{IsErrAnd}
 use Rattle.std.specs.Prelude.{OnOk}
 use Rattle.std.specs.declared.cmp.Ordering.{Ordering}
 use Rattle.std.specs.declared.cmp.Ordering.TheVariants.{Less, Equal, Greater}
 use Rattle.std.specs.declared.result.Result.{Result}
-use Rattle.std.proofs.lemmas.List.{get_or-take, get_or_default, length-take-le, take_all, take_more}
+use Rattle.std.proofs.lemmas.List.{get_or-take, get_or_default, length-take-le}
 use Rattle.std.proofs.lemmas.List.Elements.{Contains-append_cases, Contains-append_left, Contains-append_right, Contains-push, Contains-push_cases}
 use Rattle.sql_names.specs.Names.{name_cmp-IsAntisymmetric}
 use Rattle.sql_names.specs.declared.object.Object.{Object}
@@ -42,7 +42,7 @@ lies o (item.Domain d) e = ap path_of (sym e)
 lies o y e = absurd e
 
 named_so : (o : Object) (y : Item) → IsDomain (path_of o) y → IsDomainOf o y
-named_so o (item.Domain d) e = sym (same_object o d.domain e)
+named_so o (item.Domain d) e = same_object o d.domain e
 named_so o y e = absurd e
 
 pub domain_there : (c : List Item) (o : Object) → Has c (IsDomainOf o) ↔ Has c (IsDomain (path_of o))
@@ -76,7 +76,7 @@ some_gains f r old new need is put = subst (λ g. Contains new need ↔ (Contain
 )
 
 pub none_gains : (f : Option ResolvedExpr) (old new : List Need) (need : Need) → ((r : ResolvedExpr) → f ≡ Some r → ⊥) → new ≡ old → Contains new need ↔ (Contains old need ⊎ Asks need f)
-none_gains None old new need no same = (λ h. inl (subst (λ l. Contains l need) same h), λ h. elim h [ inl was ↦ subst (λ l. Contains l need) (sym same) was | inr asks ↦ absurd asks ])
+none_gains None old new need other same = (λ h. inl (subst (λ l. Contains l need) same h), λ h. elim h [ inl was ↦ subst (λ l. Contains l need) (sym same) was | inr asks ↦ absurd asks ])
 none_gains (Some r) old new need other same = absurd (other r refl)
 
 push_any : {X : Type 0} (P : X → Type 0) (xs : List X) (y : X) → Any P (xs ++ y ∷ []) ↔ (Any P xs ⊎ P y)
@@ -137,6 +137,6 @@ pub apart : (named : List NamedConstraint) (i : ℕ) (m : NamedConstraint) → H
 apart named i m own low is n h e =
     let size : length (take i named) ≡ i = length-take-le i named (omega (arith, low)) in
     let before : h.0 < i = omega (arith, h.1, size) in
-    let there : get_or named h.0 n ≡ n = sym (get_or-take named i h.0 n before) ∙ h.2 in
+    let there : get_or named h.0 n ≡ n = sym (get_or-take i named h.0 n before) ∙ h.2 in
     let here : get_or named i n ≡ m = get_or_default named i n m low ∙ sym is in
     own h.0 i n before low (ap (λ (z : NamedConstraint). z.name) there ∙ e ∙ ap (λ (z : NamedConstraint). z.name) (sym here))

@@ -1,5 +1,5 @@
 -- What the conditions of checks came to, check by check.
-use Rattle.std.proofs.Common.{◌≡◌, ◌⊎◌, ◌↔◌, ℕ, List, [], ◌∷◌, ◌++◌, length, suc, Option, None, Some, Ok, Err, ap, sym, subst, refl, ◌∙◌, inl, inr}
+use Rattle.std.proofs.Common.{◌≡◌, ◌↔◌, List, [], ◌∷◌, ◌++◌, length, suc, Option, None, Some, Ok, Err, ap, sym, subst, refl, ◌∙◌, inl, inr}
 use Rattle.std.specs.List.{Any, Contains}
 use Rattle.finite_chains.proofs.Members.{Contains-cases, Contains-head, Contains-nil, Contains-tail}
 use Rattle.sql_names.specs.declared.sort.SqlType.{SqlType}

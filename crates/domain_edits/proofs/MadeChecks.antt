@@ -1,12 +1,10 @@
 -- The checks that are made of names and conditions are those of the statement.
-use Rattle.std.proofs.Common.{◌≡◌, ◌≢◌, ◌⊎◌, ◌↔◌, ℕ, ◌+◌, ◌<◌, ◌≤◌, List, [], ◌∷◌, ◌++◌, length, take, get_or, Option, None, Some, Ok, Err, ap, sym, subst, refl, ◌∙◌, inl, inr, arith}
-use Rattle.std.specs.List.{Any, Contains}
-use Rattle.std.specs.declared.cmp.Ordering.TheVariants.{Equal}
+use Rattle.std.proofs.Common.{◌≡◌, ◌⊎◌, ◌↔◌, ℕ, ◌+◌, ◌<◌, ◌≤◌, List, [], ◌∷◌, ◌++◌, length, take, get_or, Option, None, Some, Ok, Err, ap, sym, subst, refl, ◌∙◌, inl, inr, arith}
+use Rattle.std.specs.List.{Contains}
 use Rattle.std.proofs.lemmas.List.{length-take-le, take_all}
 use Rattle.finite_chains.proofs.Members.{Contains-cases, Contains-head, Contains-nil, Contains-tail}
 use Rattle.sql_names.specs.declared.object.Object.{Object}
 use Rattle.sql_names.specs.declared.sort.SqlType.{SqlType}
-use Rattle.sql_tree.specs.declared.expr.Expr.{Expr}
 use Rattle.sql_tree.specs.declared.table.DomainCheck.{DomainCheck as WrittenCheck}
 use Rattle.sql_tree.specs.declared.table.TableConstraintKind.TheVariants as kinds
 use Rattle.cat_items.specs.declared.edit.Who.{Who}
@@ -14,7 +12,6 @@ use Rattle.cat_items.specs.declared.item.DomainCheck.{DomainCheck}
 use Rattle.cat_items.specs.declared.item.Item.{Item}
 use Rattle.cat_items.specs.declared.item.Item.TheVariants as item
 use Rattle.cat_items.specs.Needs.{AreNeeds, NeededByCondition}
-use Rattle.cat_items.specs.Order.{item_cmp, key_cmp, kind_of, object_cmp}
 use Rattle.name_scopes.specs.declared.error.ResolveError.TheVariants.{TypeMismatch}
 use Rattle.name_scopes.specs.Outcomes.{Outcome}
 use Rattle.query_types.specs.declared.whole.TypedExpr.{TypedExpr}
@@ -26,9 +23,8 @@ use Rattle.table_names.specs.declared.named.NamedConstraint.{NamedConstraint}
 use Rattle.table_names.specs.Named.{AreNamed}
 use Rattle.table_keys.specs.Keys.{beside}
 use Rattle.table_definitions.proofs.ListMembers.{contains_from_any}
-use Rattle.table_definitions.proofs.MadeItems.{kind_and_key}
 use Rattle.domain_edits.specs.Checks.{IsCheckMade, IsCheckOf, check_scope, outcome_of, parts_of}
-use Rattle.domain_edits.specs.Found.{AreFound, IsCheckAmong, IsCheckBy, IsCheckHere}
+use Rattle.domain_edits.specs.Found.{AreFound, IsCheckAmong, IsCheckHere}
 use Rattle.statement_steps.proofs.Additions.{needs_settled}
 use Rattle.domain_edits.proofs.SoundDomains.{same_written, typed_is}
 

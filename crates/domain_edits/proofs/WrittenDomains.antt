@@ -1,5 +1,5 @@
 -- What the grammar gives of the statements on domains.
-use Rattle.std.proofs.Common.{◌≡◌, ◌<◌, ◌≤◌, ℕ, suc, Bool, List, [], ◌∷◌, Option, Some, None, All, true, arith}
+use Rattle.std.proofs.Common.{◌<◌, ◌≤◌, ℕ, suc, Bool, List, Option, All, arith}
 use Rattle.std.proofs.lemmas.List.Elements.{All-nil, All-cons, All-contains}
 use Rattle.std.specs.List.{Contains}
 use Rattle.sql_names.specs.declared.sort.Default.{Default}

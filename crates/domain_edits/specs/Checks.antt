@@ -1,5 +1,5 @@
 -- Checks of a domain: their names, their conditions, and what these need (domain constraints, SQL:2003 part 2, 11.24 and 11.27).
-use Rattle.std.specs.Prelude.{◌≡◌, false, List, [], Option, None, Some, Ok, Err, map}
+use Rattle.std.specs.Prelude.{◌≡◌, false, List, [], None, Some, Ok, Err, map}
 use Rattle.std.specs.List.{Any}
 use Rattle.sql_names.specs.NameBytes.{NameBytes}
 use Rattle.sql_names.specs.declared.object.Object.{Object}

@@ -1,4 +1,3 @@
-pub mod AlteredDomains
 pub mod Checks
 pub mod CreatedDomains
 pub mod Found

@@ -18,8 +18,7 @@ use edit_conditions::condition_of;
 use edit_rules::put;
 use name_scopes::Scope;
 use sql_tree::{
-    DomainCheck as WrittenCheck, Items, Name, Object, SqlType, TableConstraint,
-    TableConstraintKind,
+    DomainCheck as WrittenCheck, Items, Name, Object, SqlType, TableConstraint, TableConstraintKind,
 };
 use std::alloc::{AllocError, Global};
 use table_names::NamedConstraint;
@@ -121,10 +120,7 @@ fn push_needs(out: &mut Items<Need>, needs: &Items<Need>) -> Result<(), AllocErr
 }
 
 /// What these conditions need. `Err` is want of memory.
-pub fn needs_of(
-    alloc: Global,
-    all: &Items<Option<ResolvedExpr>>,
-) -> Result<Items<Need>, AllocError>
+pub fn needs_of(alloc: Global, all: &Items<Option<ResolvedExpr>>) -> Result<Items<Need>, AllocError>
     ensures { IfOk result (λ needs. (need : AnyNeed) → Contains needs need ↔ Any (found.Asks need) all.now) }
 {
     let mut needs = Items::new(alloc);

@@ -14,9 +14,11 @@ ghost use Rattle.domain_edits.specs.CreatedDomains as spec;
 ghost use Rattle.domain_edits.specs.Found as found;
 ghost use Rattle.domain_edits.specs.Made.{made_of};
 
-use crate::new_domain::NewDomain;
 use crate::checks::{all_found, has_none, needs_of, parts_of, put_checks};
-use cat_items::{Catalogue, Domain, Edit, EditError, Item, Need, Part as Place, Refusal, Shared, Who, places};
+use crate::new_domain::NewDomain;
+use cat_items::{
+    Catalogue, Domain, Edit, EditError, Item, Need, Part as Place, Refusal, Shared, Who, places,
+};
 use edit_rules::{object_in, path_of, put, test_schema};
 use sql_tree::{CreateDomain, Default, DomainCheck, Items, Name, Object, SqlType};
 use statement_steps::{Making, edit_of};
@@ -80,6 +82,7 @@ fn made_domain(new: &NewDomain<'_>) -> Result<Domain, AllocError>
 
 impl<'a> Making for NewDomain<'a> {
     type Named = Items<Option<ResolvedExpr>>;
+
     type Made = FoundChecks;
 
     ghost steps = { λ d c who. spec.steps_of_domain c who (made_of d) d.checks.now };
@@ -95,7 +98,12 @@ impl<'a> Making for NewDomain<'a> {
         test_repeated(alloc, &self.domain, &self.parts)
     }
 
-    fn names(&self, alloc: Global, c: &Catalogue, who: &Who) -> Result<Items<Option<ResolvedExpr>>, EditError> {
+    fn names(
+        &self,
+        alloc: Global,
+        c: &Catalogue,
+        who: &Who,
+    ) -> Result<Items<Option<ResolvedExpr>>, EditError> {
         test_schema(c, &self.domain.schema)?;
         all_found(alloc, c, who, self.sort, self.checks)
     }
@@ -113,10 +121,19 @@ impl<'a> Making for NewDomain<'a> {
         test_new_constraints(c, &self.domain.schema, &names)
     }
 
-    fn rules(&self, alloc: Global, c: &Catalogue, who: &Who, named: Items<Option<ResolvedExpr>>) -> Result<FoundChecks, EditError> {
+    fn rules(
+        &self,
+        alloc: Global,
+        c: &Catalogue,
+        who: &Who,
+        named: Items<Option<ResolvedExpr>>,
+    ) -> Result<FoundChecks, EditError> {
         let _ = c;
         let _ = who;
-        if is_misfit(self.default, self.sort) || has_none(&named) {
+        if is_misfit(self.default, self.sort) {
+            return Err(EditError::Refused(Refusal::TypeMismatch));
+        }
+        if has_none(&named) {
             return Err(EditError::Refused(Refusal::TypeMismatch));
         }
         let needs = needs_of(alloc, &named)?;
@@ -129,11 +146,20 @@ impl<'a> Making for NewDomain<'a> {
         &made.needs
     }
 
-    fn edit(&self, alloc: Global, c: &Catalogue, who: &Who, made: FoundChecks) -> Result<Edit, AllocError> {
+    fn edit(
+        &self,
+        alloc: Global,
+        c: &Catalogue,
+        who: &Who,
+        made: FoundChecks,
+    ) -> Result<Edit, AllocError> {
         let _ = who;
         let named = name_constraints(alloc, c, &self.domain.schema, &self.parts)?;
         let mut added = Catalogue::of_sorted(Vec::new(alloc));
-        put(&mut added, Item::Domain(Shared::new(alloc, made_domain(self)?)?))?;
+        put(
+            &mut added,
+            Item::Domain(Shared::new(alloc, made_domain(self)?)?),
+        )?;
         put_checks(alloc, &mut added, &self.domain, &named, &made.all)?;
         Ok(Edit {
             target: Items::new(alloc),

@@ -1,6 +1,6 @@
 use Rattle.std.proofs.Common.{refl, subst, sym}
 use Rattle.sql_tree.specs.declared.statement.Statement.{Statement}
-use Rattle.sql_tree.specs.declared.statement.Statement.TheVariants.{CreateSchema, CreateTable, CreateView, CreateRole, DropRole, GrantPrivileges, GrantRoles, RevokePrivileges, RevokeRoles}
+use Rattle.sql_tree.specs.declared.statement.Statement.TheVariants.{CreateSchema, CreateTable, CreateView, CreateDomain, CreateRole, DropRole, GrantPrivileges, GrantRoles, RevokePrivileges, RevokeRoles}
 use Rattle.edit_rules.specs.First.{IsTested}
 use Rattle.statement_forms.specs.Written.{IsWritten}
 use Rattle.statement_forms.proofs.Forms.{table_forms}
@@ -32,6 +32,15 @@ unfolding kind_of
 returns-in_ok-create_view-in-CreateView-clause-planned c =
     let tested = c.in_ok-create_view-in-CreateView.ensures.tested in
     silently _ (CreateView c.in-CreateView.parts) c.args.c.now.items c.args.who.now _ _ c.silent-in-CreateView.result c.in-CreateView.is c.silent-in-CreateView.ensures tested.0 tested.1 refl refl
+
+pub create_domain-requires-clause-written : goal.create_domain-requires-clause-written
+create_domain-requires-clause-written c = subst IsWritten c.in-CreateDomain.is c.requires.written
+
+pub returns-in_ok-create_domain-in-CreateDomain-clause-planned : goal.returns-in_ok-create_domain-in-CreateDomain-clause-planned
+unfolding kind_of
+returns-in_ok-create_domain-in-CreateDomain-clause-planned c =
+    let tested = c.in_ok-create_domain-in-CreateDomain.ensures.tested in
+    silently _ (CreateDomain c.in-CreateDomain.parts) c.args.c.now.items c.args.who.now _ _ c.silent-in-CreateDomain.result c.in-CreateDomain.is c.silent-in-CreateDomain.ensures tested.0 tested.1 refl refl
 
 pub returns-in-DropObject-clause-planned : goal.returns-in-DropObject-clause-planned
 unfolding kind_of

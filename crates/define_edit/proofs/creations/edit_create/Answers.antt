@@ -20,3 +20,9 @@ create_view-requires-clause-written c = subst IsWritten c.in-CreateView.is c.req
 
 pub returns-in-CreateView-clause-tested : goal.returns-in-CreateView-clause-tested
 returns-in-CreateView-clause-tested c = subst (λ (s : Statement). IsTested (creation_refusals c.args.c.now.items c.args.who.now s) (IsCreation c.args.c.now.items c.args.who.now s) c.create_view.result) (sym c.in-CreateView.is) c.create_view.ensures.tested
+
+pub create_domain-requires-clause-written : goal.create_domain-requires-clause-written
+create_domain-requires-clause-written c = subst IsWritten c.in-CreateDomain.is c.requires.written
+
+pub returns-in-CreateDomain-clause-tested : goal.returns-in-CreateDomain-clause-tested
+returns-in-CreateDomain-clause-tested c = subst (λ (s : Statement). IsTested (creation_refusals c.args.c.now.items c.args.who.now s) (IsCreation c.args.c.now.items c.args.who.now s) c.create_domain.result) (sym c.in-CreateDomain.is) c.create_domain.ensures.tested

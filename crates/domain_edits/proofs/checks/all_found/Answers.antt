@@ -2,8 +2,8 @@ use Rattle.std.proofs.Common.{List, Option, [], ◌∷◌, ◌++◌, take, subst
 use Rattle.sql_tree.specs.declared.table.DomainCheck.{DomainCheck as WrittenCheck}
 use Rattle.view_deps.specs.declared.resolve.ResolvedExpr.{ResolvedExpr}
 use Rattle.edit_conditions.specs.Conditions.{IsFound}
-use Rattle.edit_rules.proofs.Lists.{take_next, take_whole}
-use Rattle.edit_rules.proofs.TestLists.{each_exit_at, each_next, each_pass_all}
+use Rattle.edit_rules.proofs.Lists.{take_next}
+use Rattle.edit_rules.proofs.TestLists.{each_exit_at, each_next}
 use Rattle.statement_steps.specs.Resolving.{unresolved_name}
 use Rattle.domain_edits.specs.Checks.{outcome_of, unresolved_checks}
 use Rattle.domain_edits.specs.Found.{AreFound}

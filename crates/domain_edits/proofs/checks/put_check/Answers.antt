@@ -1,7 +1,5 @@
-use Rattle.std.proofs.Common.{◌≡◌, ◌↔◌, ◌⊎◌, ap, sym, subst, ◌∙◌, inl, inr}
-use Rattle.std.specs.List.{Contains}
+use Rattle.std.proofs.Common.{◌≡◌, ◌↔◌, ap, sym, subst, ◌∙◌, inl, inr}
 use Rattle.cat_items.specs.declared.item.DomainCheck.{DomainCheck}
-use Rattle.cat_items.specs.declared.item.Item.{Item}
 use Rattle.cat_items.specs.declared.item.Item.TheVariants as item
 use Rattle.domain_edits.specs.Found.{IsCheckBy, IsCheckHere}
 use Rattle.domain_edits.proofs.DomainLemmas.{check_is_new, here_is, on_ok}
@@ -20,8 +18,8 @@ returns-in_ok-new-in-Some c =
     let made : IsCheckBy domain n r k = subst (IsCheckBy domain n r) (sym c.in_ok-new-in-Some.ensures) c.in_ok-check-in-Some.ensures in
     on_ok c.put.result _ _
     (λ all x.
-        let same : (x ≡ item.DomainCheck k) ↔ IsCheckHere domain n c.args.one.now x = subst (λ f. (x ≡ item.DomainCheck k) ↔ IsCheckHere domain n f x) (sym c.in-Some.is) (here_is domain n r k made x) in (
-          λ h. elim ((all x).0 h) [ inl was ↦ inl was | inr e ↦ inr (same.0 e) ],
-          λ h. (all x).1 (elim h [ inl was ↦ inl was | inr here ↦ inr (same.1 here) ]),
-        ))
+    let same : (x ≡ item.DomainCheck k) ↔ IsCheckHere domain n c.args.one.now x = subst (λ f. (x ≡ item.DomainCheck k) ↔ IsCheckHere domain n f x) (sym c.in-Some.is) (here_is domain n r k made x) in (
+      λ h. elim ((all x).0 h) [ inl was ↦ inl was | inr e ↦ inr (same.0 e) ],
+      λ h. (all x).1 (elim h [ inl was ↦ inl was | inr here ↦ inr (same.1 here) ]),
+    ))
     c.put.ensures.members

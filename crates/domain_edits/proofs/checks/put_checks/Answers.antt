@@ -1,4 +1,4 @@
-use Rattle.std.proofs.Common.{ap, sym, subst, ◌∙◌, inl, inr, take}
+use Rattle.std.proofs.Common.{ap, sym, subst, ◌∙◌, inl, inr, length, take}
 use Rattle.sql_names.specs.declared.object.Object.{Object}
 use Rattle.cat_items.specs.declared.item.DomainCheck.{DomainCheck}
 use Rattle.cat_items.specs.declared.item.Item.TheVariants as item
@@ -22,7 +22,7 @@ pub loop-at-preserved : goal.loop-at-preserved
 loop-at-preserved c = record {
   members =
       grown c.args.domain.now c.as_slice-named.result.now c.as_slice-all.result.now c.loop-at.at c.index-named-at.result c.index-all-at.result c.args.added.now.items c.loop-at.added.items c.put_check.new.added.items
-      (c.as_slice-all.ensures ∙ c.requires.length ∙ sym c.as_slice-named.ensures) c.loop-at-test.true c.index-named-at.is c.index-all-at.is c.loop-at.invariant.members c.in_ok-put_check.ensures;
+      (ap length c.as_slice-all.ensures ∙ c.requires.length ∙ sym (ap length c.as_slice-named.ensures)) c.loop-at-test.true c.index-named-at.is c.index-all-at.is c.loop-at.invariant.members c.in_ok-put_check.ensures;
 }
 
 pub returns : goal.returns
