@@ -3,8 +3,8 @@
 
   run.py --prog "CMD" [--all] [--only NAME]... [--slow] [--list]
 
-Each example names in `needs` the stage of the product from which it passes; `stages` lists the stages in order,
-each with the word `built` where it is.
+Each example names in `needs` the stages of the product that it waits for; `stages` lists the stages, each with the
+word `built` where it is.
 --all       runs the examples of stages that aren't built too.
 --slow      runs the examples marked `slow` too.
 --timeout S seconds for one run (default 60, as a test has).
@@ -26,18 +26,20 @@ def rows():
             yield n, d
 
 
-def built_stages():
-    built = set()
-    for line in open(os.path.join(HERE, 'stages')):
-        w = line.split()
-        if len(w) > 1 and w[1] == 'built':
-            built.add(w[0])
-    return built
+def stages():
+    """The stages, and those of them that are built."""
+    lines = [line.split() for line in open(os.path.join(HERE, 'stages'))]
+    return {w[0] for w in lines if w}, {w[0] for w in lines if w[1:2] == ['built']}
 
 
-def needs_of(d):
+def needs_of(d, known):
+    """The stages that an example waits for, and its marks."""
     w = open(os.path.join(d, 'needs')).read().split()
-    return w[0], set(w[1:])
+    marks = set(w) & {'slow'}
+    unknown = set(w) - known - marks
+    if unknown:
+        sys.exit('%s/needs: no such stage: %s' % (os.path.basename(d), ' '.join(sorted(unknown))))
+    return set(w) - marks, marks
 
 
 def run(cmd, args, stdin, timeout):
@@ -69,13 +71,13 @@ def main():
     ap.add_argument('--list', action='store_true')
     a = ap.parse_args()
     cmd = shlex.split(a.prog)
-    built = built_stages()
+    known, built = stages()
     passed = failed = skipped = 0
     for name, d in rows():
         if a.only and name not in a.only:
             continue
-        stage, marks = needs_of(d)
-        if (stage not in built and not a.all) or ('slow' in marks and not a.slow):
+        waits, marks = needs_of(d, known)
+        if (waits - built and not a.all) or ('slow' in marks and not a.slow):
             skipped += 1
             continue
         if a.list:
