@@ -6,7 +6,7 @@ use Rattle.sql_tree.specs.declared.statement.DropKind.{DropKind}
 use Rattle.sql_tree.specs.declared.statement.GrantPrivileges.{GrantPrivileges as GrantParts}
 use Rattle.sql_tree.specs.declared.statement.SchemaNameClause.{SchemaNameClause}
 use Rattle.sql_tree.specs.declared.statement.Statement.{Statement}
-use Rattle.sql_tree.specs.declared.statement.Statement.TheVariants.{CreateSchema, CreateTable, CreateView, CreateDomain, CreateRole, DropObject, DropRole, GrantPrivileges, GrantRoles, RevokePrivileges, RevokeRoles}
+use Rattle.sql_tree.specs.declared.statement.Statement.TheVariants.{CreateSchema, CreateTable, CreateView, CreateDomain, CreateFunction, CreateProcedure, CreateRole, DropObject, DropRole, GrantPrivileges, GrantRoles, RevokePrivileges, RevokeRoles}
 use Rattle.cat_items.specs.declared.edit.Edit.{Edit}
 use Rattle.cat_items.specs.declared.edit.Refusal.{Refusal}
 use Rattle.cat_items.specs.declared.edit.Refusal.TheVariants.{StillNeeded, CatalogFull}
@@ -24,6 +24,8 @@ use Rattle.edit_rules.proofs.FirstLaws.{IsSettled, AreSettled, first_settled}
 use Rattle.edit_rules.specs.Names.{object_in}
 use Rattle.edit_rules.proofs.Settled.{grantor_settled}
 use Rattle.edit_rules.proofs.SettledEdits.{taking_settled}
+use Rattle.routine_edit.specs.CreatedRoutines.{function_signature, procedure_signature}
+use Rattle.routine_edit.proofs.Settled.{routine_edit_settled, routine_refusals_settled}
 use Rattle.domain_edits.proofs.NewDomains.{domain_edit_settled, domain_refusals_settled}
 use Rattle.object_edits.proofs.ViewsSettled.{view_edit_settled, view_refusals_settled}
 use Rattle.table_definitions.proofs.Settled as tables
@@ -88,6 +90,16 @@ kind_settled (CreateSchema s) = record { refusals = λ c who. create_schema_sett
 kind_settled (CreateTable s) = record { refusals = λ c who. tables.creation_refusals_settled c who s; edit = λ c who a b p q. tables.creation_settled c who s a b p q; warning = silent_settled }
 kind_settled (CreateView s) = record { refusals = λ c who. view_refusals_settled c who s; edit = λ c who a b p q. view_edit_settled c who s a b p q; warning = silent_settled }
 kind_settled (CreateDomain s) = record { refusals = λ c who. domain_refusals_settled c who s; edit = λ c who a b p q. domain_edit_settled c who s a b p q; warning = silent_settled }
+kind_settled (CreateFunction s) = record {
+  refusals = λ c who. routine_refusals_settled c who (function_signature who s) s.body;
+  edit = λ c who a b p q. routine_edit_settled c who (function_signature who s) s.body a b p q;
+  warning = silent_settled;
+}
+kind_settled (CreateProcedure s) = record {
+  refusals = λ c who. routine_refusals_settled c who (procedure_signature who s) s.body;
+  edit = λ c who a b p q. routine_edit_settled c who (procedure_signature who s) s.body a b p q;
+  warning = silent_settled;
+}
 kind_settled (DropObject d) = drop_kind_settled d.behaviour d.kind d.object
 kind_settled (CreateRole r) = record { refusals = λ c who. creation_refusals_settled c who r; edit = λ c who a b p q. creation_settled c who r a b p q; warning = silent_settled }
 kind_settled (DropRole role) = record { refusals = λ c who. drop_refusals_settled c who (DropRole role); edit = λ c who a b p q. drop_settled c who (DropRole role) a b p q; warning = silent_settled }

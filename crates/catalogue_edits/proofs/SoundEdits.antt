@@ -7,7 +7,7 @@ use Rattle.sql_tree.specs.declared.statement.CreateRole.{CreateRole as CreateRol
 use Rattle.sql_tree.specs.declared.statement.GrantPrivileges.{GrantPrivileges as GrantParts}
 use Rattle.sql_tree.specs.declared.statement.GrantRoles.{GrantRoles as GrantRolesParts}
 use Rattle.sql_tree.specs.declared.statement.Statement.{Statement}
-use Rattle.sql_tree.specs.declared.statement.Statement.TheVariants.{CreateSchema, CreateTable, CreateView, CreateDomain, CreateRole, DropObject, DropRole, GrantPrivileges, GrantRoles, RevokePrivileges, RevokeRoles}
+use Rattle.sql_tree.specs.declared.statement.Statement.TheVariants.{CreateSchema, CreateTable, CreateView, CreateDomain, CreateFunction, CreateProcedure, CreateRole, DropObject, DropRole, GrantPrivileges, GrantRoles, RevokePrivileges, RevokeRoles}
 use Rattle.cat_items.specs.declared.edit.Edit.{Edit}
 use Rattle.cat_items.specs.declared.edit.Refusal.TheVariants.{NameExists, NameReserved, RoleCycle, UnknownName}
 use Rattle.cat_items.specs.declared.edit.Who.{Who}
@@ -29,6 +29,8 @@ use Rattle.statement_forms.specs.Written.{IsWritten}
 use Rattle.statement_forms.proofs.Forms.{table_forms}
 use Rattle.table_parts.specs.Parts.{parts_in}
 use Rattle.table_definitions.proofs.SoundCreations.{sound_creation as sound_table}
+use Rattle.routine_edit.specs.CreatedRoutines.{function_signature, procedure_signature}
+use Rattle.routine_edit.proofs.Settled.{function_is_sound, procedure_is_sound, routine_leaves_users}
 use Rattle.domain_edits.proofs.NewDomains.{domain_leaves_users, sound_creation as sound_domain}
 use Rattle.object_edits.proofs.SoundViews.{sound_creation as sound_view}
 use Rattle.object_edits.proofs.ViewsSettled.{view_leaves_users}
@@ -92,6 +94,8 @@ edit_is_sound c who (CreateSchema s) edit good written passed is =
 edit_is_sound c who (CreateTable s) edit good written passed is = sound_table c who (object_in who.schema s.table) (parts_in s.elements) edit good passed (table_forms s written) is
 edit_is_sound c who (CreateView s) edit good written passed is = sound_view c who s edit good written passed is
 edit_is_sound c who (CreateDomain s) edit good written passed is = sound_domain c who s edit good written passed is
+edit_is_sound c who (CreateFunction s) edit good written passed is = function_is_sound c who s edit good written passed is
+edit_is_sound c who (CreateProcedure s) edit good written passed is = procedure_is_sound c who s edit good written passed is
 edit_is_sound c who (DropObject d) edit good written passed is = sound_drop c d.kind (object_in who.schema d.object) edit good is
 edit_is_sound c who (CreateRole r) edit good written passed is = role_is_created_soundly c who r edit good passed is
 edit_is_sound c who (GrantRoles g) edit good written passed is = roles_are_granted_soundly c who g edit good passed is
@@ -143,6 +147,8 @@ edit_leaves_users c who (CreateSchema s) edit is = schema_leaves_users edit (ite
 edit_leaves_users c who (CreateTable s) edit is = adding_leaves_users _ edit is.2 (λ name h. h)
 edit_leaves_users c who (CreateView s) edit is = view_leaves_users c who s edit is
 edit_leaves_users c who (CreateDomain s) edit is = domain_leaves_users c who s edit is
+edit_leaves_users c who (CreateFunction s) edit is = routine_leaves_users c who (function_signature who s) s.body edit is
+edit_leaves_users c who (CreateProcedure s) edit is = routine_leaves_users c who (procedure_signature who s) s.body edit is
 edit_leaves_users c who (DropObject d) edit is = let object = object_in who.schema d.object in taking_leaves_users c (GoesWith d.kind object) edit is (λ user h. user_stays d.kind object user h)
 edit_leaves_users c who (CreateRole r) edit is = subst LeavesUsers (sym is.2) (role_leaves_users r.role is.0)
 edit_leaves_users c who (GrantRoles g) edit is = adding_leaves_users (IsGrantedRole is.0 g.roles g.grantees g.admin_option) edit is.2 (λ name h. h)

@@ -6,7 +6,7 @@ use Rattle.sql_tree.specs.declared.statement.Behaviour.{Behaviour}
 use Rattle.sql_tree.specs.declared.statement.Behaviour.TheVariants.{Restrict, Cascade}
 use Rattle.sql_tree.specs.declared.statement.DropKind.{DropKind}
 use Rattle.sql_tree.specs.declared.statement.Statement.{Statement}
-use Rattle.sql_tree.specs.declared.statement.Statement.TheVariants.{CreateSchema, CreateTable, CreateView, CreateDomain, CreateRole, DropObject, DropRole, GrantPrivileges, GrantRoles, RevokePrivileges, RevokeRoles}
+use Rattle.sql_tree.specs.declared.statement.Statement.TheVariants.{CreateSchema, CreateTable, CreateView, CreateDomain, CreateFunction, CreateProcedure, CreateRole, DropObject, DropRole, GrantPrivileges, GrantRoles, RevokePrivileges, RevokeRoles}
 use Rattle.cat_items.specs.declared.edit.Edit.{Edit}
 use Rattle.cat_items.specs.declared.edit.Refusal.{Refusal}
 use Rattle.cat_items.specs.declared.edit.Who.{Who}
@@ -16,6 +16,7 @@ use Rattle.table_definitions.specs.Built.{IsBuiltTable}
 use Rattle.table_definitions.specs.Tables.{IsTableCreation, create_table_refusals}
 use Rattle.object_edits.specs.CreatedViews.{IsViewCreation, create_view_refusals}
 use Rattle.domain_edits.specs.CreatedDomains.{IsDomainCreation, create_domain_refusals}
+use Rattle.routine_edit.specs.CreatedRoutines.{IsFunctionCreation, IsProcedureCreation, create_function_refusals, create_procedure_refusals}
 use Rattle.define_edit.specs.CreatedSchemas.{create_schema_edit, create_schema_refusals}
 use Rattle.drop_edit.specs.DroppedObjects.{IsObjectDrop, drop_object_refusals}
 use Rattle.drop_edit.specs.DroppedRoles.{IsRoleDrop, drop_role_refusals}
@@ -57,12 +58,14 @@ drop_kind behaviour kind name = record {
   restricts = where_restrict behaviour false;
 }
 
--- CREATE SCHEMA without elements, CREATE TABLE without domains and CHECK, CREATE VIEW, CREATE DOMAIN, DROP of objects, and what is said on roles and privileges
+-- CREATE SCHEMA without elements, CREATE TABLE without domains and CHECK, CREATE VIEW, CREATE DOMAIN, CREATE FUNCTION, CREATE PROCEDURE, DROP of objects, and what is said on roles and privileges
 unfoldable pub kind_of : Statement → Kind
 kind_of (CreateSchema s) = record { built = s.elements ≡ []; refusals = λ c who. create_schema_refusals c who s.schema; makes = λ c who edit. edit ≡ create_schema_edit who s.schema; warns = is_silent; restricts = None }
 kind_of (CreateTable s) = record { built = IsBuiltTable s.elements; refusals = λ c who. create_table_refusals c who s; makes = λ c who. IsTableCreation c who s; warns = is_silent; restricts = None }
 kind_of (CreateView s) = record { built = Unit {0}; refusals = λ c who. create_view_refusals c who s; makes = λ c who. IsViewCreation c who s; warns = is_silent; restricts = None }
 kind_of (CreateDomain s) = record { built = Unit {0}; refusals = λ c who. create_domain_refusals c who s; makes = λ c who. IsDomainCreation c who s; warns = is_silent; restricts = None }
+kind_of (CreateFunction s) = record { built = Unit {0}; refusals = λ c who. create_function_refusals c who s; makes = λ c who. IsFunctionCreation c who s; warns = is_silent; restricts = None }
+kind_of (CreateProcedure s) = record { built = Unit {0}; refusals = λ c who. create_procedure_refusals c who s; makes = λ c who. IsProcedureCreation c who s; warns = is_silent; restricts = None }
 kind_of (DropObject d) = drop_kind d.behaviour d.kind d.object
 kind_of (CreateRole r) = record { built = Unit {0}; refusals = λ c who. create_role_refusals c who r; makes = λ c who. IsRoleCreation c who r; warns = is_silent; restricts = None }
 kind_of (DropRole role) = record { built = Unit {0}; refusals = λ c who. drop_role_refusals c who role; makes = λ c who. IsRoleDrop c role; warns = is_silent; restricts = Some true }

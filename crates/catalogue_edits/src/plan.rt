@@ -18,6 +18,7 @@ use drop_edit::{drop_object, drop_role};
 use grant_edit::{Granting, grant, revoke};
 use object_edits::create_view;
 use role_edit::{create_role, grant_roles, revoke_roles};
+use routine_edit::{create_function, create_procedure};
 use sql_tree::{Behaviour, DropObject, Statement};
 use std::alloc::Global;
 use table_definitions::create_table;
@@ -120,6 +121,14 @@ pub fn plan_of(
         Statement::CreateTable(parts) => Ok(silent(create_table(alloc, c, who, parts)?, None)),
         Statement::CreateView(parts) => Ok(silent(create_view(alloc, c, who, parts)?, None)),
         Statement::CreateDomain(parts) => Ok(silent(create_domain(alloc, c, who, parts)?, None)),
+        Statement::CreateFunction(parts) => Ok(silent(
+            create_function(alloc, c, who, parts)?,
+            None,
+        )),
+        Statement::CreateProcedure(parts) => Ok(silent(
+            create_procedure(alloc, c, who, parts)?,
+            None,
+        )),
         Statement::DropObject(parts) => dropping(alloc, c, who, parts),
         Statement::CreateRole(parts) => Ok(silent(create_role(alloc, c, who, parts)?, None)),
         Statement::DropRole(role) => Ok(silent(drop_role(alloc, c, who, role)?, Some(true))),

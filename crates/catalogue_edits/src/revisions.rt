@@ -24,6 +24,7 @@ pub fn is_edit(statement: &Statement) -> bool
         Statement::CreateSchema(parts) => parts.elements.is_empty(),
         Statement::CreateTable(parts) => is_built(&parts.elements),
         Statement::CreateView(_) | Statement::CreateDomain(_) => true,
+        Statement::CreateFunction(_) | Statement::CreateProcedure(_) => true,
         Statement::DropObject(parts) => !matches!(parts.kind, DropKind::Domain),
         Statement::CreateRole(_) | Statement::GrantRoles(_) | Statement::RevokeRoles(_) => true,
         Statement::DropRole(_) => true,

@@ -11,12 +11,13 @@ use crate::schemas::create_schema;
 use cat_items::{Catalogue, Edit, EditError, Who};
 use domain_edits::create_domain;
 use object_edits::create_view;
+use routine_edit::{create_function, create_procedure};
 use sql_tree::Statement;
 use std::alloc::Global;
 use table_definitions::create_table;
 
-/// What CREATE SCHEMA, CREATE TABLE, CREATE VIEW or CREATE DOMAIN adds to a catalogue, or why it is refused (SQL:2003 part 2, 11.1,
-/// 11.3, 11.22 and 11.24). `Memory` is want of memory.
+/// What a CREATE of a schema or of an object of one, but of an assertion, adds to a catalogue, or why it is refused (SQL:2003 part 2, 11.1,
+/// 11.3, 11.22, 11.24 and 11.50). `Memory` is want of memory.
 pub fn edit_create(
     alloc: Global,
     c: &Catalogue,
@@ -34,6 +35,8 @@ pub fn edit_create(
         Statement::CreateTable(parts) => create_table(alloc, c, who, parts),
         Statement::CreateView(parts) => create_view(alloc, c, who, parts),
         Statement::CreateDomain(parts) => create_domain(alloc, c, who, parts),
+        Statement::CreateFunction(parts) => create_function(alloc, c, who, parts),
+        Statement::CreateProcedure(parts) => create_procedure(alloc, c, who, parts),
         _ => unreachable!(),
     }
 }

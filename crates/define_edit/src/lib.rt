@@ -1,4 +1,4 @@
-//! Statements that define: CREATE SCHEMA, CREATE TABLE and CREATE VIEW, as the edits that they make of a catalogue.
+//! Statements that define: CREATE SCHEMA, and each CREATE of an object of a schema by one call, as the edits that they make of a catalogue.
 #![tactic(auto)]
 
 mod creations;

@@ -1,6 +1,6 @@
 use Rattle.std.proofs.Common.{refl, subst, sym}
 use Rattle.sql_tree.specs.declared.statement.Statement.{Statement}
-use Rattle.sql_tree.specs.declared.statement.Statement.TheVariants.{CreateSchema, CreateTable, CreateView, CreateDomain, CreateRole, DropRole, GrantPrivileges, GrantRoles, RevokePrivileges, RevokeRoles}
+use Rattle.sql_tree.specs.declared.statement.Statement.TheVariants.{CreateSchema, CreateTable, CreateView, CreateDomain, CreateFunction, CreateProcedure, CreateRole, DropRole, GrantPrivileges, GrantRoles, RevokePrivileges, RevokeRoles}
 use Rattle.edit_rules.specs.First.{IsTested}
 use Rattle.statement_forms.specs.Written.{IsWritten}
 use Rattle.statement_forms.proofs.Forms.{table_forms}
@@ -41,6 +41,24 @@ unfolding kind_of
 returns-in_ok-create_domain-in-CreateDomain-clause-planned c =
     let tested = c.in_ok-create_domain-in-CreateDomain.ensures.tested in
     silently _ (CreateDomain c.in-CreateDomain.parts) c.args.c.now.items c.args.who.now _ _ c.silent-in-CreateDomain.result c.in-CreateDomain.is c.silent-in-CreateDomain.ensures tested.0 tested.1 refl refl
+
+pub create_function-requires-clause-written : goal.create_function-requires-clause-written
+create_function-requires-clause-written c = subst IsWritten c.in-CreateFunction.is c.requires.written
+
+pub returns-in_ok-create_function-in-CreateFunction-clause-planned : goal.returns-in_ok-create_function-in-CreateFunction-clause-planned
+unfolding kind_of
+returns-in_ok-create_function-in-CreateFunction-clause-planned c =
+    let tested = c.in_ok-create_function-in-CreateFunction.ensures.tested in
+    silently _ (CreateFunction c.in-CreateFunction.parts) c.args.c.now.items c.args.who.now _ _ c.silent-in-CreateFunction.result c.in-CreateFunction.is c.silent-in-CreateFunction.ensures tested.0 tested.1 refl refl
+
+pub create_procedure-requires-clause-written : goal.create_procedure-requires-clause-written
+create_procedure-requires-clause-written c = subst IsWritten c.in-CreateProcedure.is c.requires.written
+
+pub returns-in_ok-create_procedure-in-CreateProcedure-clause-planned : goal.returns-in_ok-create_procedure-in-CreateProcedure-clause-planned
+unfolding kind_of
+returns-in_ok-create_procedure-in-CreateProcedure-clause-planned c =
+    let tested = c.in_ok-create_procedure-in-CreateProcedure.ensures.tested in
+    silently _ (CreateProcedure c.in-CreateProcedure.parts) c.args.c.now.items c.args.who.now _ _ c.silent-in-CreateProcedure.result c.in-CreateProcedure.is c.silent-in-CreateProcedure.ensures tested.0 tested.1 refl refl
 
 pub returns-in-DropObject-clause-planned : goal.returns-in-DropObject-clause-planned
 unfolding kind_of

@@ -26,3 +26,15 @@ create_domain-requires-clause-written c = subst IsWritten c.in-CreateDomain.is c
 
 pub returns-in-CreateDomain-clause-tested : goal.returns-in-CreateDomain-clause-tested
 returns-in-CreateDomain-clause-tested c = subst (λ (s : Statement). IsTested (creation_refusals c.args.c.now.items c.args.who.now s) (IsCreation c.args.c.now.items c.args.who.now s) c.create_domain.result) (sym c.in-CreateDomain.is) c.create_domain.ensures.tested
+
+pub create_function-requires-clause-written : goal.create_function-requires-clause-written
+create_function-requires-clause-written c = subst IsWritten c.in-CreateFunction.is c.requires.written
+
+pub returns-in-CreateFunction-clause-tested : goal.returns-in-CreateFunction-clause-tested
+returns-in-CreateFunction-clause-tested c = subst (λ (s : Statement). IsTested (creation_refusals c.args.c.now.items c.args.who.now s) (IsCreation c.args.c.now.items c.args.who.now s) c.create_function.result) (sym c.in-CreateFunction.is) c.create_function.ensures.tested
+
+pub create_procedure-requires-clause-written : goal.create_procedure-requires-clause-written
+create_procedure-requires-clause-written c = subst IsWritten c.in-CreateProcedure.is c.requires.written
+
+pub returns-in-CreateProcedure-clause-tested : goal.returns-in-CreateProcedure-clause-tested
+returns-in-CreateProcedure-clause-tested c = subst (λ (s : Statement). IsTested (creation_refusals c.args.c.now.items c.args.who.now s) (IsCreation c.args.c.now.items c.args.who.now s) c.create_procedure.result) (sym c.in-CreateProcedure.is) c.create_procedure.ensures.tested

@@ -1,0 +1,3 @@
+pub mod RoutineLemmas
+pub mod Settled
+pub mod SoundRoutines

@@ -1,0 +1,2 @@
+pub mod CreatedRoutines
+pub mod Making
