@@ -1,0 +1,2 @@
+pub mod CreatedAssertions
+pub mod Making
