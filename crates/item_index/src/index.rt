@@ -197,7 +197,9 @@ impl<K: Eq + Hash + Drop, S: BuildHasher + Drop> Index<K, S> {
     ) -> Option<usize>
         requires { IsNode self.now node }
         ensures dependents { result ≡ slice_get (list_at self.now.dependents node) at }
+        ensures small { IfSome result (λ n. at < 2 ^ 63) }
         ensures ticks { steps.new ≡ steps.old + 1 }
+        ensures whole { IsWhole K.eq self.now }
     {
         steps.tick();
         self.dependents.get(node, at)
@@ -207,7 +209,9 @@ impl<K: Eq + Hash + Drop, S: BuildHasher + Drop> Index<K, S> {
     pub fn rests<L: Ledger>(&self, node: usize, at: usize, steps: &mut Steps<L>) -> Option<usize>
         requires { IsNode self.now node }
         ensures rests { result ≡ slice_get (list_at self.now.rests node) at }
+        ensures small { IfSome result (λ n. at < 2 ^ 63) }
         ensures ticks { steps.new ≡ steps.old + 1 }
+        ensures whole { IsWhole K.eq self.now }
     {
         steps.tick();
         self.rests.get(node, at)

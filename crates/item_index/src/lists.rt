@@ -156,7 +156,8 @@ impl Lists {
     /// The number at a place of a list.
     pub(crate) fn get(&self, list: usize, at: usize) -> Option<usize>
         requires { list < length self.now.lists }
-        ensures { result ≡ slice_get (list_at self.now.lists list) at }
+        ensures number { result ≡ slice_get (list_at self.now.lists list) at }
+        ensures small { IfSome result (λ n. at < 2 ^ 63) }
     {
         let numbers = self.list(list);
         if at < numbers.len() {

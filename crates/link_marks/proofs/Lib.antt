@@ -1,0 +1,4 @@
+pub mod GrownMarks
+pub mod MarkSums
+pub mod Places
+pub mod Reaching
