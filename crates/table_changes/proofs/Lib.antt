@@ -1,0 +1,5 @@
+pub mod Settled
+pub mod SoundDefaults
+pub mod SoundDrops
+pub mod Taking
+pub mod WrittenDefaults

@@ -1,0 +1,4 @@
+pub mod Changes
+pub mod Defaults
+pub mod DroppedColumns
+pub mod DroppedConstraints
