@@ -1,0 +1,4 @@
+pub mod ColumnLemmas
+pub mod KeyLists
+pub mod MeantKeys
+pub mod RangeMakings
