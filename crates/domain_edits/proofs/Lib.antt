@@ -1,6 +1,11 @@
+pub mod Alterations
+pub mod ChangedDomains
+pub mod CheckNames
 pub mod DomainLemmas
 pub mod FoundLemmas
 pub mod MadeChecks
 pub mod NewDomains
+pub mod SoundChanges
 pub mod SoundDomains
+pub mod Standing
 pub mod WrittenDomains

@@ -72,28 +72,35 @@ pub record AreFormedChecks (c : List Item) (domain : Object) (named : List Named
   pub free : (n : NamedConstraint) → Contains named n → ¬ (Has c (IsConstraint (beside domain n.name)))
   pub formed : (n : NamedConstraint) (e : Expr) → Contains named n → n.kind ≡ kinds.Check e → AreFormed (expr_pieces e)
 
--- ---- CREATE DOMAIN
+-- ---- checks that are made
 
-module _ (c : List Item) (who : Who) (d : Domain) (named : List NamedConstraint) (edit : Edit) (good : IsGood c) (new : ¬ (Has c (IsDomain (path_of d.domain))))
-    (types : IsType d.sort × AreResolved (default_pieces d.default)) (formed : AreFormedChecks c d.domain named) (is : MakesEdit c Nothing Nothing (IsDomainMade c who d named) edit) where
-  free_check : (x : DomainCheck) → IsCheckMade c who d.sort d.domain named x → HasFreeName c (item.DomainCheck x)
+module _ (c : List Item) (who : Who) (sort : SqlType) (domain : Object) (named : List NamedConstraint) (good : IsGood c) (formed : AreFormedChecks c domain named) where
+  pub free_check : (x : DomainCheck) → IsCheckMade c who sort domain named x → HasFreeName c (item.DomainCheck x)
   free_check x p =
-      let n = contains_from_any (IsCheckOf c who d.sort d.domain x) named p in
+      let n = contains_from_any (IsCheckOf c who sort domain x) named p in
       subst (λ (o : Object). ¬ (Has c (IsConstraint o))) (sym n.2.called) (formed.free n.0 n.1)
 
-  proper_check : (x : DomainCheck) → IsCheckMade c who d.sort d.domain named x → IsProperItem (item.DomainCheck x)
+  pub proper_check : (x : DomainCheck) → IsCheckMade c who sort domain named x → IsProperItem (item.DomainCheck x)
   proper_check x p =
-      let n = contains_from_any (IsCheckOf c who d.sort d.domain x) named p in
-      let tree = condition_resolved c (check_scope who.schema d.sort) n.2.written n.2.typed good (formed.formed n.0 n.2.written n.1 n.2.kind) n.2.resolved in record {
+      let n = contains_from_any (IsCheckOf c who sort domain x) named p in
+      let tree = condition_resolved c (check_scope who.schema sort) n.2.written n.2.typed good (formed.formed n.0 n.2.written n.1 n.2.kind) n.2.resolved in record {
         allowed = tt;
         derived = subst (λ (e : Expr). AreNeeds x.needs (NeededByCondition e)) (sym n.2.condition_is) n.2.needs;
         lists = tt;
         trees = subst (λ (e : Expr). AreResolved (expr_pieces e)) (sym n.2.condition_is) tree;
       }
 
+  -- checks of one name are one
+  pub same_name : (x y : DomainCheck) (n : NameSet × List (List ℕ)) → IsCheckMade c who sort domain named x → IsCheckMade c who sort domain named y → name_of (item.DomainCheck x) ≡ Some n → name_of (item.DomainCheck y) ≡ Some n → x ≡ y
+  same_name x y n p q nx ny = one_check c who sort domain named formed.own x y p q (same_object x.name y.name (ap path_in (nx ∙ sym ny)))
+
+-- ---- CREATE DOMAIN
+
+module _ (c : List Item) (who : Who) (d : Domain) (named : List NamedConstraint) (edit : Edit) (good : IsGood c) (new : ¬ (Has c (IsDomain (path_of d.domain))))
+    (types : IsType d.sort × AreResolved (default_pieces d.default)) (formed : AreFormedChecks c d.domain named) (is : MakesEdit c Nothing Nothing (IsDomainMade c who d named) edit) where
   one_made : (x y : Item) (n : NameSet × List (List ℕ)) → IsDomainMade c who d named x → IsDomainMade c who d named y → name_of x ≡ Some n → name_of y ≡ Some n → x ≡ y
   one_made (item.Domain x) (item.Domain y) n p q nx ny = ap item.Domain (p ∙ sym q)
-  one_made (item.DomainCheck x) (item.DomainCheck y) n p q nx ny = ap item.DomainCheck (one_check c who d.sort d.domain named formed.own x y p q (same_object x.name y.name (ap path_in (nx ∙ sym ny))))
+  one_made (item.DomainCheck x) (item.DomainCheck y) n p q nx ny = ap item.DomainCheck (same_name c who d.sort d.domain named good formed x y n p q nx ny)
   one_made (item.Domain x) (item.DomainCheck y) n p q nx ny = absurd (let odd : 5 ≡ 4 = ap number_in (nx ∙ sym ny) in omega (arith, odd))
   one_made (item.DomainCheck x) (item.Domain y) n p q nx ny = absurd (let odd : 4 ≡ 5 = ap number_in (nx ∙ sym ny) in omega (arith, odd))
   one_made x (item.Domain y) n p q nx ny = absurd p
@@ -102,12 +109,12 @@ module _ (c : List Item) (who : Who) (d : Domain) (named : List NamedConstraint)
 
   free_made : (x : Item) → IsDomainMade c who d named x → HasFreeName c x
   free_made (item.Domain x) p = subst (λ (z : Domain). ¬ (Has c (IsDomain (path_of z.domain)))) (sym p) new
-  free_made (item.DomainCheck x) p = free_check x p
+  free_made (item.DomainCheck x) p = free_check c who d.sort d.domain named good formed x p
   free_made x p = absurd p
 
   proper_made : (x : Item) → IsDomainMade c who d named x → IsProperItem x
   proper_made (item.Domain x) p = record { allowed = tt; derived = tt; lists = tt; trees = subst (λ (z : Domain). IsType z.sort × AreResolved (default_pieces z.default)) (sym p) types }
-  proper_made (item.DomainCheck x) p = proper_check x p
+  proper_made (item.DomainCheck x) p = proper_check c who d.sort d.domain named good formed x p
   proper_made x p = absurd p
 
   beside_made : (x : Item) → IsDomainMade c who d named x → IsProperBeside c edit x

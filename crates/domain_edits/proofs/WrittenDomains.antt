@@ -1,9 +1,12 @@
 -- What the grammar gives of the statements on domains.
-use Rattle.std.proofs.Common.{◌<◌, ◌≤◌, ℕ, suc, Bool, List, Option, All, arith}
+use Rattle.std.proofs.Common.{◌<◌, ◌≤◌, ℕ, suc, Bool, List, Option, None, Some, All, arith}
 use Rattle.std.proofs.lemmas.List.Elements.{All-nil, All-cons, All-contains}
 use Rattle.std.specs.List.{Contains}
 use Rattle.sql_names.specs.declared.sort.Default.{Default}
 use Rattle.sql_tree.specs.declared.expr.Expr.{Expr}
+use Rattle.sql_tree.specs.declared.statement.AlterDomain.{AlterDomain}
+use Rattle.sql_tree.specs.declared.statement.AlterDomainAction.{AlterDomainAction}
+use Rattle.sql_tree.specs.declared.statement.AlterDomainAction.TheVariants as actions
 use Rattle.sql_tree.specs.declared.statement.CreateDomain.{CreateDomain}
 use Rattle.sql_tree.specs.declared.statement.Statement.TheVariants as statements
 use Rattle.sql_tree.specs.declared.table.DomainCheck.{DomainCheck as WrittenCheck}
@@ -15,7 +18,8 @@ use Rattle.sql_phrases.specs.TypeRules.{SpellsDefault}
 use Rattle.sql_expressions.proofs.DepthProofs.{deep_type}
 use Rattle.sql_definitions.specs.CheckRules.{SpellsCheck, SpellsDomainCheck, check, domain_check}
 use Rattle.sql_definitions.proofs.DefinitionDepths.{deep_domain_check, peak_default}
-use Rattle.sql_grammar.specs.StatementRules.{SpellsStatement, create_domain}
+use Rattle.sql_grammar.specs.AlterRules.{SpellsAlterDomainAction, set_domain_default, drop_domain_default, add_domain_check, drop_domain_constraint}
+use Rattle.sql_grammar.specs.StatementRules.{SpellsStatement, create_domain, alter_domain}
 use Rattle.cat_items.specs.Pieces.{AreFormed, AreResolved, IsResolved, IsType, default_pieces, expr_pieces}
 use Rattle.statement_forms.specs.Written.{IsWritten}
 use Rattle.statement_forms.proofs.DefaultForms.{default-form}
@@ -66,3 +70,24 @@ statement-form (create_domain {checks = checks} t u o m s d cs) are =
 
 pub formed_domain : (s : CreateDomain) → IsWritten (statements.CreateDomain s) → IsFormedDomain s
 formed_domain s written = statement-form written.2 written.1
+
+-- ---- ALTER DOMAIN
+
+-- the default or the check is of its form
+abbrev pub IsFormedAction : AlterDomainAction → Type 0
+IsFormedAction (actions.SetDefault default) = AreResolved (default_pieces (Some default))
+IsFormedAction actions.DropDefault = AreResolved (default_pieces None)
+IsFormedAction (actions.AddCheck k) = IsFormedCheck k
+IsFormedAction (actions.DropConstraint name) = Unit {0}
+
+action-form : {most : ℕ} {a : AlterDomainAction} {ws rest : List Word} → SpellsAlterDomainAction most a ws rest → AreWords ws → IsFormedAction a
+action-form (set_domain_default s t d) are = default-form d (kept_token t (kept_token s are))
+action-form (drop_domain_default d t) are = All-nil IsResolved
+action-form (add_domain_check {c = k} t written) are = domain-check-form k written (kept_token t are)
+action-form (drop_domain_constraint d t name) are = tt
+
+alter-form : {most : ℕ} {s : AlterDomain} {ws rest : List Word} → SpellsStatement most (statements.AlterDomain s) ws rest → AreWords ws → IsFormedAction s.action
+alter-form (alter_domain a d n action) are = action-form action (kept_object n (kept_token d (kept_token a are)))
+
+pub formed_action : (s : AlterDomain) → IsWritten (statements.AlterDomain s) → IsFormedAction s.action
+formed_action s written = alter-form written.2 written.1

@@ -1,3 +1,4 @@
+pub mod AlteredDomains
 pub mod Checks
 pub mod CreatedDomains
 pub mod Found

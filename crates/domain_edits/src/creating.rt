@@ -1,12 +1,10 @@
 //! CREATE DOMAIN.
 
-ghost use Rattle.std.specs.Prelude.{◌≡◌, ◌↔◌, ◌∷◌, [], Contains, IfOk, IsTrue};
+ghost use Rattle.std.specs.Prelude.{◌≡◌, ◌↔◌, Contains, IfOk};
 ghost use Rattle.sql_tree.specs.declared.statement.Statement.TheVariants as statements;
 ghost use Rattle.cat_items.specs.declared.need.Need.{Need as AnyNeed};
 ghost use Rattle.cat_items.specs.Good.{IsGood};
-ghost use Rattle.cat_items.specs.Reach.{Has};
-ghost use Rattle.cat_items.specs.Rights as rights;
-ghost use Rattle.edit_rules.specs.First.{HasPassed, IsTested};
+ghost use Rattle.edit_rules.specs.First.{IsTested};
 ghost use Rattle.edit_laws.specs.Sound.{IsSound};
 ghost use Rattle.statement_forms.specs.Written.{IsWritten};
 ghost use Rattle.domain_edits.specs.Checks as checks;
@@ -15,48 +13,16 @@ ghost use Rattle.domain_edits.specs.Found as found;
 ghost use Rattle.domain_edits.specs.Made.{made_of};
 
 use crate::checks::{all_found, has_none, needs_of, parts_of, put_checks};
+use crate::defaults::{copy_default, is_misfit};
+use crate::names::test_new_domain;
 use crate::new_domain::NewDomain;
-use cat_items::{
-    Catalogue, Domain, Edit, EditError, Item, Need, Part as Place, Refusal, Shared, Who, places,
-};
-use edit_rules::{object_in, path_of, put, test_schema};
-use sql_tree::{CreateDomain, Default, DomainCheck, Items, Name, Object, SqlType};
+use cat_items::{Catalogue, Domain, Edit, EditError, Item, Need, Refusal, Shared, Who};
+use edit_rules::{object_in, put, test_schema};
+use sql_tree::{CreateDomain, Items, Name};
 use statement_steps::{Making, edit_of};
 use std::alloc::{AllocError, Global};
 use table_names::{given_names, name_constraints, test_new_constraints, test_repeated};
-use table_parts::{class_of, default_class};
 use view_deps::ResolvedExpr;
-
-/// Whether a default is of another class than a type.
-fn is_misfit(default: &Option<Default>, sort: SqlType) -> bool
-    ensures { IsTrue result ↔ spec.IsMisfit default.now sort }
-{
-    match default {
-        None => false,
-        Some(default) => match default_class(default) {
-            None => false,
-            Some(class) => class_of(sort) != class,
-        },
-    }
-}
-
-/// Whether a domain has this name.
-fn is_domain(c: &Catalogue, domain: &Object) -> bool
-    ensures { IsTrue result ↔ Has c.now.items (rights.IsDomain (rights.path_of domain.now)) }
-{
-    !places(c, Place::Domain(domain.into())).is_empty()
-}
-
-/// Refuses a name that a domain has.
-fn test_new_domain(c: &Catalogue, domain: &Object) -> Result<(), EditError>
-    ensures { HasPassed (spec.domain_exists c.now.items domain.now ∷ []) result }
-{
-    if !is_domain(c, domain) {
-        return Ok(());
-    }
-    let path = path_of(domain)?;
-    Err(EditError::Refused(Refusal::NameExists { path }))
-}
 
 /// What the conditions of its checks came to, and what they need.
 #[derive(Drop)]
@@ -69,14 +35,10 @@ pub struct FoundChecks {
 fn made_domain(new: &NewDomain<'_>) -> Result<Domain, AllocError>
     ensures { IfOk result (λ d. d ≡ made_of new.now) }
 {
-    let default = match new.default {
-        None => None,
-        Some(default) => Some(default.copy()?),
-    };
     Ok(Domain {
         domain: new.domain.copy()?,
         sort: new.sort,
-        default,
+        default: copy_default(new.default)?,
     })
 }
 

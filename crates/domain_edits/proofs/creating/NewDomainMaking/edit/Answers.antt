@@ -11,7 +11,8 @@ use Rattle.cat_items.specs.Catalogues.{IsInOrder}
 use Rattle.cat_items.specs.declared.item.Domain.{Domain}
 use Rattle.domain_edits.specs.Made.{made_of}
 use Rattle.domain_edits.proofs.FoundLemmas.{found_length}
-use Rattle.domain_edits.proofs.NewDomains.{made, named_length, no_check_yet, own}
+use Rattle.domain_edits.proofs.CheckNames.{named_length}
+use Rattle.domain_edits.proofs.NewDomains.{made, no_check_yet, own}
 use Rattle.domain_edits.proofs.creating.NewDomainMaking.edit.Goals as goal
 
 pub put_checks-requires-clause-names : goal.put_checks-requires-clause-names

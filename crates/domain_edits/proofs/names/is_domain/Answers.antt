@@ -4,7 +4,7 @@ use Rattle.cat_items.specs.Ranges.{IsDomainOf, IsRange}
 use Rattle.role_graph.proofs.LoopLemmas.{join}
 use Rattle.edit_rules.proofs.NameLemmas.{in_range}
 use Rattle.domain_edits.proofs.DomainLemmas.{domain_there}
-use Rattle.domain_edits.proofs.creating.is_domain.Goals as goal
+use Rattle.domain_edits.proofs.names.is_domain.Goals as goal
 
 pub returns : goal.returns
 returns c =
