@@ -1,0 +1,4 @@
+pub mod Kept
+pub mod OwnNames
+pub mod ReferenceEquations
+pub mod Replaced
