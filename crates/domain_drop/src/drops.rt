@@ -17,8 +17,8 @@ use std::alloc::Global;
 /// The edit of DROP DOMAIN (SQL:2003 part 2, 11.30), or the first of its refusals by the catalogue as it is: no domain has the name, or the
 /// session doesn't act for the owner of its schema. The domain goes with its checks and the privileges on it. A column that is based on it stays:
 /// with the domain's type, with the domain's default where it has none of its own, and with a copy of each check for which the owner of its table
-/// has all privileges that the copy needs. Columns and copies count as further: whether RESTRICT refuses is not decided here. `Memory` is want of
-/// memory.
+/// has all privileges that the copy needs; a copy takes the first free name of the system. A column that is freed counts as changed, so RESTRICT
+/// refuses where there is one, but that is not decided here. `Memory` is want of memory.
 pub fn drop_domain(
     alloc: Global,
     c: &Catalogue,
