@@ -1,15 +1,14 @@
 -- The plan of a statement is what the table of kinds says.
-use Rattle.std.proofs.Common.{◌≡◌, ◌∙◌, List, None, Option, Some, Bool, false, ap, sym, subst}
+use Rattle.std.proofs.Common.{◌≡◌, ◌∙◌, List, None, Option, Some, Bool, false, ap, refl, sym, subst}
 use Rattle.sql_names.specs.declared.column.ObjectName.{ObjectName}
 use Rattle.sql_tree.specs.declared.statement.Behaviour.{Behaviour}
 use Rattle.sql_tree.specs.declared.statement.DropKind.{DropKind}
+use Rattle.sql_tree.specs.declared.statement.DropKind.TheVariants as kinds
 use Rattle.sql_tree.specs.declared.statement.Statement.{Statement}
 use Rattle.cat_items.specs.declared.edit.Edit.{Edit}
 use Rattle.cat_items.specs.declared.edit.Who.{Who}
 use Rattle.cat_items.specs.declared.item.Item.{Item}
 use Rattle.edit_rules.specs.First.{First, Passes}
-use Rattle.edit_rules.specs.Names.{object_in}
-use Rattle.drop_edit.specs.DroppedObjects.{IsObjectDrop, drop_object_refusals}
 use Rattle.catalogue_edits.specs.declared.plan.Plan.{Plan}
 use Rattle.catalogue_edits.specs.Kinds.{Kind, drop_kind, kind_of, where_restrict}
 use Rattle.catalogue_edits.specs.Statements.{IsPlanned}
@@ -36,26 +35,36 @@ planned s t c who edit plan is edit_is passes makes warns restrict = of_parts s 
   },
 )
 
--- and without a warning
+-- a plan with an edit that a kind makes, and without a warning
+pub quietly : (kind : Kind) (c : List Item) (who : Who) (edit : Edit) (restrict : Option Bool) (plan : Plan) → plan ≡ record { edit = edit; warning = None; restrict = restrict }
+    → Passes (First (kind.refusals c who)) → kind.makes c who edit → kind.warns c who edit None → restrict ≡ kind.restricts → IsPlannedBy kind c who plan
+quietly kind c who edit restrict plan made passes makes warns same = (
+  passes,
+  record {
+    edit = subst (kind.makes c who) (sym (ap (λ (p : Plan). p.edit) made)) makes;
+    warning = subst (λ (p : Plan). kind.warns c who p.edit p.warning) (sym made) warns;
+    restrict = ap (λ (p : Plan). p.restrict) made ∙ same;
+  },
+)
+
+-- the same of a statement with these parts
 pub silently : (s t : Statement) (c : List Item) (who : Who) (edit : Edit) (restrict : Option Bool) (plan : Plan) → s ≡ t → plan ≡ record { edit = edit; warning = None; restrict = restrict }
     → Passes (First ((kind_of t).refusals c who)) → (kind_of t).makes c who edit → (kind_of t).warns c who edit None → restrict ≡ (kind_of t).restricts → IsPlannedBy (kind_of s) c who plan
-silently s t c who edit restrict plan is made passes makes warns same = planned s t c who edit plan is (ap (λ (p : Plan). p.edit) made) passes makes
-    (subst ((kind_of t).warns c who edit) (sym (ap (λ (p : Plan). p.warning) made)) warns) (ap (λ (p : Plan). p.restrict) made ∙ same)
+silently s t c who edit restrict plan is made passes makes warns same = of_parts s t c who plan is (quietly (kind_of t) c who edit restrict plan made passes makes warns same)
 
 -- a warning that is due where the one is so is due where the other is
 pub warns_as : (P Q : Type 0) (kind : Warning) (warning : Option Warning) → (P → Q) → (Q → P) → WarnsWhere P kind warning → WarnsWhere Q kind warning
 warns_as P Q kind None to from warns = λ q. warns (from q)
 warns_as P Q kind (Some warning) to from warns = (to warns.0, warns.1)
 
--- DROP of an object
-pub dropped : (behaviour : Behaviour) (kind : DropKind) (name : ObjectName) (c : List Item) (who : Who) (edit : Edit) (restrict : Option Bool) (plan : Plan)
-    → plan ≡ record { edit = edit; warning = None; restrict = restrict } → Passes (First (drop_object_refusals c who kind name)) → IsObjectDrop c kind (object_in who.schema name) edit → restrict ≡ where_restrict behaviour false
-    → IsPlannedBy (drop_kind behaviour kind name) c who plan
-dropped behaviour kind name c who edit restrict plan made passes makes same = (
-  passes,
-  record {
-    edit = subst (IsObjectDrop c kind (object_in who.schema name)) (sym (ap (λ (p : Plan). p.edit) made)) makes;
-    warning = ap (λ (p : Plan). p.warning) made;
-    restrict = ap (λ (p : Plan). p.restrict) made ∙ same;
-  },
-)
+-- ---- DROP of an object
+
+-- each of them warns of nothing, and has the behaviour that is said
+pub drops_quietly : (behaviour : Behaviour) (k : DropKind) (name : ObjectName) (c : List Item) (who : Who) (edit : Edit) → (drop_kind behaviour k name).warns c who edit None × ((drop_kind behaviour k name).restricts ≡ where_restrict behaviour false)
+drops_quietly behaviour kinds.Table name c who edit = (refl, refl)
+drops_quietly behaviour kinds.View name c who edit = (refl, refl)
+drops_quietly behaviour kinds.Domain name c who edit = (refl, refl)
+drops_quietly behaviour kinds.Assertion name c who edit = (refl, refl)
+drops_quietly behaviour kinds.Function name c who edit = (refl, refl)
+drops_quietly behaviour kinds.Procedure name c who edit = (refl, refl)
+drops_quietly behaviour kinds.Routine name c who edit = (refl, refl)

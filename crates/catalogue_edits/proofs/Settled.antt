@@ -3,10 +3,11 @@ use Rattle.std.proofs.Common.{◌≡◌, ℕ, Bool, List, [], Option, Some, None
 use Rattle.sql_names.specs.declared.column.ObjectName.{ObjectName}
 use Rattle.sql_tree.specs.declared.statement.Behaviour.{Behaviour}
 use Rattle.sql_tree.specs.declared.statement.DropKind.{DropKind}
+use Rattle.sql_tree.specs.declared.statement.DropKind.TheVariants as kind
 use Rattle.sql_tree.specs.declared.statement.GrantPrivileges.{GrantPrivileges as GrantParts}
 use Rattle.sql_tree.specs.declared.statement.SchemaNameClause.{SchemaNameClause}
 use Rattle.sql_tree.specs.declared.statement.Statement.{Statement}
-use Rattle.sql_tree.specs.declared.statement.Statement.TheVariants.{CreateSchema, CreateTable, CreateView, CreateDomain, CreateFunction, CreateProcedure, CreateRole, DropObject, DropRole, GrantPrivileges, GrantRoles, RevokePrivileges, RevokeRoles}
+use Rattle.sql_tree.specs.declared.statement.Statement.TheVariants.{AlterDomain, AlterTable, CreateAssertion, CreateSchema, CreateTable, CreateView, CreateDomain, CreateFunction, CreateProcedure, CreateRole, DropObject, DropRole, DropSchema, GrantPrivileges, GrantRoles, RevokePrivileges, RevokeRoles}
 use Rattle.cat_items.specs.declared.edit.Edit.{Edit}
 use Rattle.cat_items.specs.declared.edit.Refusal.{Refusal}
 use Rattle.cat_items.specs.declared.edit.Refusal.TheVariants.{StillNeeded, CatalogFull}
@@ -26,9 +27,14 @@ use Rattle.edit_rules.proofs.Settled.{grantor_settled}
 use Rattle.edit_rules.proofs.SettledEdits.{taking_settled}
 use Rattle.routine_edit.specs.CreatedRoutines.{function_signature, procedure_signature}
 use Rattle.routine_edit.proofs.Settled.{routine_edit_settled, routine_refusals_settled}
+use Rattle.assertion_edit.proofs.NewAssertions.{assertion_edit_settled, assertion_refusals_settled}
+use Rattle.domain_edits.proofs.Alterations.{alter_domain_edit_settled, alter_domain_refusals_settled}
 use Rattle.domain_edits.proofs.NewDomains.{domain_edit_settled, domain_refusals_settled}
 use Rattle.object_edits.proofs.ViewsSettled.{view_edit_settled, view_refusals_settled}
 use Rattle.table_definitions.proofs.Settled as tables
+use Rattle.table_changes.proofs.Settled.{standing_edit_settled, standing_refusals_settled}
+use Rattle.domain_drop.proofs.DomainDrops.{drop_domain_edit_settled, drop_domain_refusals_settled}
+use Rattle.domain_drop.proofs.SchemaDrops.{drop_schema_edit_settled, drop_schema_refusals_settled}
 use Rattle.define_edit.specs.CreatedSchemas.{create_schema_refusals}
 use Rattle.drop_edit.specs.DroppedObjects.{GoesWith}
 use Rattle.drop_edit.proofs.Settled.{drop_settled, drop_refusals_settled, object_refusals_settled}
@@ -39,7 +45,7 @@ use Rattle.grant_edit.proofs.Settled.{granting_settled, granting_refusals_settle
 use Rattle.catalogue_edits.specs.declared.warning.Warning.{Warning}
 use Rattle.catalogue_edits.specs.declared.warning.Warning.TheVariants.{NotGranted, NotRevoked}
 use Rattle.catalogue_edits.specs.Limits.{too_many_items, too_many_columns}
-use Rattle.catalogue_edits.specs.Kinds.{Kind, drop_kind, kind_of, no_kind}
+use Rattle.catalogue_edits.specs.Kinds.{Kind, drop_kind, kind_of, no_kind, take_kind}
 use Rattle.catalogue_edits.specs.Restrict.{still_needed}
 use Rattle.catalogue_edits.specs.Revisions.{for_edit, outcome_refusals, revision_refusals, IsRevised}
 use Rattle.catalogue_edits.specs.Statements.{edit_refusals, IsEditOf}
@@ -77,12 +83,25 @@ pub record IsSettledKind (kind : Kind) : Type 0 where
 nothing_of_kind : IsSettledKind no_kind
 nothing_of_kind = record { refusals = λ c who. tt; edit = λ c who a b p q. absurd p; warning = silent_settled }
 
-drop_kind_settled : (behaviour : Behaviour) (kind : DropKind) (name : ObjectName) → IsSettledKind (drop_kind behaviour kind name)
-drop_kind_settled behaviour kind name = record {
+take_kind_settled : (behaviour : Behaviour) (kind : DropKind) (name : ObjectName) → IsSettledKind (take_kind behaviour kind name)
+take_kind_settled behaviour kind name = record {
   refusals = λ c who. object_refusals_settled c who kind name;
   edit = λ c who a b p q. taking_settled c (GoesWith kind (object_in who.schema name)) a b p q;
   warning = silent_settled;
 }
+
+drop_kind_settled : (behaviour : Behaviour) (kind : DropKind) (name : ObjectName) → IsSettledKind (drop_kind behaviour kind name)
+drop_kind_settled behaviour kind.Domain name = record {
+  refusals = λ c who. drop_domain_refusals_settled c who name;
+  edit = λ c who a b p q. drop_domain_edit_settled c who name a b p q;
+  warning = silent_settled;
+}
+drop_kind_settled behaviour kind.Table name = take_kind_settled behaviour kind.Table name
+drop_kind_settled behaviour kind.View name = take_kind_settled behaviour kind.View name
+drop_kind_settled behaviour kind.Assertion name = take_kind_settled behaviour kind.Assertion name
+drop_kind_settled behaviour kind.Function name = take_kind_settled behaviour kind.Function name
+drop_kind_settled behaviour kind.Procedure name = take_kind_settled behaviour kind.Procedure name
+drop_kind_settled behaviour kind.Routine name = take_kind_settled behaviour kind.Routine name
 
 kind_settled : (s : Statement) → IsSettledKind (kind_of s)
 unfolding kind_of
@@ -90,6 +109,8 @@ kind_settled (CreateSchema s) = record { refusals = λ c who. create_schema_sett
 kind_settled (CreateTable s) = record { refusals = λ c who. tables.creation_refusals_settled c who s; edit = λ c who a b p q. tables.creation_settled c who s a b p q; warning = silent_settled }
 kind_settled (CreateView s) = record { refusals = λ c who. view_refusals_settled c who s; edit = λ c who a b p q. view_edit_settled c who s a b p q; warning = silent_settled }
 kind_settled (CreateDomain s) = record { refusals = λ c who. domain_refusals_settled c who s; edit = λ c who a b p q. domain_edit_settled c who s a b p q; warning = silent_settled }
+kind_settled (CreateAssertion s) = record { refusals = λ c who. assertion_refusals_settled c who s; edit = λ c who a b p q. assertion_edit_settled c who s a b p q; warning = silent_settled }
+kind_settled (AlterDomain s) = record { refusals = λ c who. alter_domain_refusals_settled c who s; edit = λ c who a b p q. alter_domain_edit_settled c who s a b p q; warning = silent_settled }
 kind_settled (CreateFunction s) = record {
   refusals = λ c who. routine_refusals_settled c who (function_signature who s) s.body;
   edit = λ c who a b p q. routine_edit_settled c who (function_signature who s) s.body a b p q;
@@ -100,6 +121,8 @@ kind_settled (CreateProcedure s) = record {
   edit = λ c who a b p q. routine_edit_settled c who (procedure_signature who s) s.body a b p q;
   warning = silent_settled;
 }
+kind_settled (AlterTable s) = record { refusals = λ c who. standing_refusals_settled c who s; edit = λ c who a b p q. standing_edit_settled c who s a b p q; warning = silent_settled }
+kind_settled (DropSchema schema behaviour) = record { refusals = λ c who. drop_schema_refusals_settled c who schema; edit = λ c who a b p q. drop_schema_edit_settled c schema a b p q; warning = silent_settled }
 kind_settled (DropObject d) = drop_kind_settled d.behaviour d.kind d.object
 kind_settled (CreateRole r) = record { refusals = λ c who. creation_refusals_settled c who r; edit = λ c who a b p q. creation_settled c who r a b p q; warning = silent_settled }
 kind_settled (DropRole role) = record { refusals = λ c who. drop_refusals_settled c who (DropRole role); edit = λ c who a b p q. drop_settled c who (DropRole role) a b p q; warning = silent_settled }

@@ -3,11 +3,12 @@ use Rattle.std.proofs.Common.{◌≡◌, ◌↔◌, List, [], ◌∷◌, Option,
 use Rattle.std.specs.List.{Contains}
 use Rattle.finite_chains.proofs.Members.{Contains-nil, Contains-cases}
 use Rattle.sql_names.specs.NameBytes.{NameBytes}
+use Rattle.sql_names.specs.declared.object.Object.{Object}
 use Rattle.sql_tree.specs.declared.statement.CreateRole.{CreateRole as CreateRoleParts}
 use Rattle.sql_tree.specs.declared.statement.GrantPrivileges.{GrantPrivileges as GrantParts}
 use Rattle.sql_tree.specs.declared.statement.GrantRoles.{GrantRoles as GrantRolesParts}
 use Rattle.sql_tree.specs.declared.statement.Statement.{Statement}
-use Rattle.sql_tree.specs.declared.statement.Statement.TheVariants.{CreateSchema, CreateTable, CreateView, CreateDomain, CreateFunction, CreateProcedure, CreateRole, DropObject, DropRole, GrantPrivileges, GrantRoles, RevokePrivileges, RevokeRoles}
+use Rattle.sql_tree.specs.declared.statement.Statement.TheVariants.{AlterDomain, AlterTable, CreateAssertion, CreateSchema, CreateTable, CreateView, CreateDomain, CreateFunction, CreateProcedure, CreateRole, DropObject, DropRole, DropSchema, GrantPrivileges, GrantRoles, RevokePrivileges, RevokeRoles}
 use Rattle.cat_items.specs.declared.edit.Edit.{Edit}
 use Rattle.cat_items.specs.declared.edit.Refusal.TheVariants.{NameExists, NameReserved, RoleCycle, UnknownName}
 use Rattle.cat_items.specs.declared.edit.Who.{Who}
@@ -26,11 +27,20 @@ use Rattle.edit_laws.specs.Sound.{IsSound}
 use Rattle.edit_laws.specs.Users.{LeavesUsers}
 use Rattle.edit_laws.proofs.Users.{users_stay}
 use Rattle.statement_forms.specs.Written.{IsWritten}
+use Rattle.sql_names.specs.declared.column.ObjectName.{ObjectName}
+use Rattle.sql_tree.specs.declared.statement.Behaviour.{Behaviour}
+use Rattle.sql_tree.specs.declared.statement.DropKind.{DropKind}
+use Rattle.sql_tree.specs.declared.statement.DropKind.TheVariants as kind
+use Rattle.domain_drop.proofs.DomainDrops.{domain_drop_leaves_users, sound_domain_drop}
+use Rattle.domain_drop.proofs.SchemaDrops.{schema_drop_leaves_users, sound_schema_drop}
 use Rattle.statement_forms.proofs.Forms.{table_forms}
 use Rattle.table_parts.specs.Parts.{parts_in}
+use Rattle.table_changes.proofs.Settled.{sound_standing, standing_leaves_users}
 use Rattle.table_definitions.proofs.SoundCreations.{sound_creation as sound_table}
 use Rattle.routine_edit.specs.CreatedRoutines.{function_signature, procedure_signature}
 use Rattle.routine_edit.proofs.Settled.{function_is_sound, procedure_is_sound, routine_leaves_users}
+use Rattle.assertion_edit.proofs.NewAssertions.{assertion_leaves_users, sound_creation as sound_assertion}
+use Rattle.domain_edits.proofs.Alterations.{alteration_leaves_users, sound_alteration}
 use Rattle.domain_edits.proofs.NewDomains.{domain_leaves_users, sound_creation as sound_domain}
 use Rattle.object_edits.proofs.SoundViews.{sound_creation as sound_view}
 use Rattle.object_edits.proofs.ViewsSettled.{view_leaves_users}
@@ -52,7 +62,7 @@ use Rattle.grant_edit.specs.Revokes.{IsIdentifiedRight}
 use Rattle.grant_edit.specs.Statements.{GrantsEdit, revoked_by, target_object}
 use Rattle.grant_edit.proofs.RightLemmas.{grant_is_right}
 use Rattle.grant_edit.proofs.Soundness.{adding_is_sound, taking_is_sound}
-use Rattle.catalogue_edits.specs.Kinds.{kind_of}
+use Rattle.catalogue_edits.specs.Kinds.{drop_kind, kind_of}
 use Rattle.catalogue_edits.specs.Revisions.{for_edit, outcome_refusals, revision_refusals, IsRevised}
 use Rattle.catalogue_edits.specs.Statements.{edit_refusals, IsEditOf}
 use Rattle.catalogue_edits.specs.declared.warning.Warning.{Warning}
@@ -87,6 +97,15 @@ privileges_are_granted_soundly c who parts edit good is =
     let whom = named_grantees parts.grantees in
     adding_is_sound c (IsGrant granted is.0 whom parts.grant_option) edit good is.2 (grant_is_right granted is.0 whom parts.grant_option)
 
+object_is_dropped_soundly : (c : List Item) (who : Who) (behaviour : Behaviour) (k : DropKind) (name : ObjectName) (edit : Edit) → IsGood c → (drop_kind behaviour k name).makes c who edit → IsSound c edit
+object_is_dropped_soundly c who behaviour kind.Domain name edit good is = sound_domain_drop c who name edit good is
+object_is_dropped_soundly c who behaviour kind.Table name edit good is = sound_drop c kind.Table (object_in who.schema name) edit good is
+object_is_dropped_soundly c who behaviour kind.View name edit good is = sound_drop c kind.View (object_in who.schema name) edit good is
+object_is_dropped_soundly c who behaviour kind.Assertion name edit good is = sound_drop c kind.Assertion (object_in who.schema name) edit good is
+object_is_dropped_soundly c who behaviour kind.Function name edit good is = sound_drop c kind.Function (object_in who.schema name) edit good is
+object_is_dropped_soundly c who behaviour kind.Procedure name edit good is = sound_drop c kind.Procedure (object_in who.schema name) edit good is
+object_is_dropped_soundly c who behaviour kind.Routine name edit good is = sound_drop c kind.Routine (object_in who.schema name) edit good is
+
 pub edit_is_sound : (c : List Item) (who : Who) (s : Statement) (edit : Edit) → IsGood c → IsWritten s → Passes (First (edit_refusals c who s)) → IsEditOf c who s edit → IsSound c edit
 unfolding kind_of
 edit_is_sound c who (CreateSchema s) edit good written passed is =
@@ -94,9 +113,13 @@ edit_is_sound c who (CreateSchema s) edit good written passed is =
 edit_is_sound c who (CreateTable s) edit good written passed is = sound_table c who (object_in who.schema s.table) (parts_in s.elements) edit good passed (table_forms s written) is
 edit_is_sound c who (CreateView s) edit good written passed is = sound_view c who s edit good written passed is
 edit_is_sound c who (CreateDomain s) edit good written passed is = sound_domain c who s edit good written passed is
+edit_is_sound c who (CreateAssertion s) edit good written passed is = sound_assertion c who s edit good written passed is
+edit_is_sound c who (AlterDomain s) edit good written passed is = sound_alteration c who s edit good written passed is
 edit_is_sound c who (CreateFunction s) edit good written passed is = function_is_sound c who s edit good written passed is
 edit_is_sound c who (CreateProcedure s) edit good written passed is = procedure_is_sound c who s edit good written passed is
-edit_is_sound c who (DropObject d) edit good written passed is = sound_drop c d.kind (object_in who.schema d.object) edit good is
+edit_is_sound c who (AlterTable s) edit good written passed is = sound_standing c who s edit good written passed is
+edit_is_sound c who (DropSchema schema behaviour) edit good written passed is = sound_schema_drop c schema edit good is
+edit_is_sound c who (DropObject d) edit good written passed is = object_is_dropped_soundly c who d.behaviour d.kind d.object edit good is
 edit_is_sound c who (CreateRole r) edit good written passed is = role_is_created_soundly c who r edit good passed is
 edit_is_sound c who (GrantRoles g) edit good written passed is = roles_are_granted_soundly c who g edit good passed is
 edit_is_sound c who (RevokeRoles g) edit good written passed is = sound_of_revoking c is.0 g edit good is.2
@@ -141,15 +164,31 @@ role_leaves_users role administrator name = (λ h. Contains-nil (item.User name)
           ]
         ]
 
+taken_leaves_users : (c : List Item) (k : DropKind) (object : Object) (edit : Edit) → IsTaking c (GoesWith k object) edit → LeavesUsers edit
+taken_leaves_users c k object edit is = taking_leaves_users c (GoesWith k object) edit is (λ user h. user_stays k object user h)
+
+object_drop_leaves_users : (c : List Item) (who : Who) (behaviour : Behaviour) (k : DropKind) (name : ObjectName) (edit : Edit) → (drop_kind behaviour k name).makes c who edit → LeavesUsers edit
+object_drop_leaves_users c who behaviour kind.Domain name edit is = domain_drop_leaves_users c who name edit is
+object_drop_leaves_users c who behaviour kind.Table name edit is = taken_leaves_users c kind.Table (object_in who.schema name) edit is
+object_drop_leaves_users c who behaviour kind.View name edit is = taken_leaves_users c kind.View (object_in who.schema name) edit is
+object_drop_leaves_users c who behaviour kind.Assertion name edit is = taken_leaves_users c kind.Assertion (object_in who.schema name) edit is
+object_drop_leaves_users c who behaviour kind.Function name edit is = taken_leaves_users c kind.Function (object_in who.schema name) edit is
+object_drop_leaves_users c who behaviour kind.Procedure name edit is = taken_leaves_users c kind.Procedure (object_in who.schema name) edit is
+object_drop_leaves_users c who behaviour kind.Routine name edit is = taken_leaves_users c kind.Routine (object_in who.schema name) edit is
+
 pub edit_leaves_users : (c : List Item) (who : Who) (s : Statement) (edit : Edit) → IsEditOf c who s edit → LeavesUsers edit
 unfolding kind_of
 edit_leaves_users c who (CreateSchema s) edit is = schema_leaves_users edit (item.Schema (record { name = schema_name s.schema; owner = schema_owner s.schema who })) (λ name e. cc) is
 edit_leaves_users c who (CreateTable s) edit is = adding_leaves_users _ edit is.2 (λ name h. h)
+edit_leaves_users c who (AlterTable s) edit is = standing_leaves_users c who s edit is
+edit_leaves_users c who (DropSchema schema behaviour) edit is = schema_drop_leaves_users c schema edit is
 edit_leaves_users c who (CreateView s) edit is = view_leaves_users c who s edit is
 edit_leaves_users c who (CreateDomain s) edit is = domain_leaves_users c who s edit is
+edit_leaves_users c who (CreateAssertion s) edit is = assertion_leaves_users c who s edit is
+edit_leaves_users c who (AlterDomain s) edit is = alteration_leaves_users c who s edit is
 edit_leaves_users c who (CreateFunction s) edit is = routine_leaves_users c who (function_signature who s) s.body edit is
 edit_leaves_users c who (CreateProcedure s) edit is = routine_leaves_users c who (procedure_signature who s) s.body edit is
-edit_leaves_users c who (DropObject d) edit is = let object = object_in who.schema d.object in taking_leaves_users c (GoesWith d.kind object) edit is (λ user h. user_stays d.kind object user h)
+edit_leaves_users c who (DropObject d) edit is = object_drop_leaves_users c who d.behaviour d.kind d.object edit is
 edit_leaves_users c who (CreateRole r) edit is = subst LeavesUsers (sym is.2) (role_leaves_users r.role is.0)
 edit_leaves_users c who (GrantRoles g) edit is = adding_leaves_users (IsGrantedRole is.0 g.roles g.grantees g.admin_option) edit is.2 (λ name h. h)
 edit_leaves_users c who (RevokeRoles g) edit is = taking_leaves_users c (IsIdentifiedRoleGrant is.0 g) edit is.2 (λ name h. h)

@@ -11,16 +11,19 @@ ghost use Rattle.catalogue_edits.specs.Warnings.{WarnsWhere};
 ghost use Rattle.catalogue_edits.specs.declared.warning.Warning.TheVariants.{NotGranted, NotRevoked};
 
 use crate::warning::Warning;
+use assertion_edit::create_assertion;
 use cat_items::{Catalogue, Edit, EditError, Who};
 use define_edit::create_schema;
-use domain_edits::create_domain;
+use domain_drop::{drop_domain, drop_schema};
+use domain_edits::{alter_domain, create_domain};
 use drop_edit::{drop_object, drop_role};
 use grant_edit::{Granting, grant, revoke};
 use object_edits::create_view;
 use role_edit::{create_role, grant_roles, revoke_roles};
 use routine_edit::{create_function, create_procedure};
-use sql_tree::{Behaviour, DropObject, Statement};
+use sql_tree::{AlterTableAction, Behaviour, DropKind, DropObject, Statement};
 use std::alloc::Global;
+use table_changes::alter_standing;
 use table_definitions::create_table;
 
 /// An edit, what the statement that makes it warns of, and whether the statement has the behaviour RESTRICT: then
@@ -87,6 +90,19 @@ fn granting(granting: Granting) -> Plan
     }
 }
 
+/// The edit of a DROP of an object.
+fn dropped(alloc: Global, c: &Catalogue, who: &Who, parts: &DropObject) -> Result<Edit, EditError>
+    requires { IsGood c.now.items }
+    ensures tested { IsTested ((kinds.drop_kind parts.now.behaviour parts.now.kind parts.now.object).refusals c.now.items who.now)
+        ((kinds.drop_kind parts.now.behaviour parts.now.kind parts.now.object).makes c.now.items who.now) result }
+    ensures sound { IfOk result (IsSound c.now.items) }
+{
+    match parts.kind {
+        DropKind::Domain => drop_domain(alloc, c, who, &parts.object),
+        kind => drop_object(alloc, c, who, kind, &parts.object),
+    }
+}
+
 /// The plan of a DROP of an object.
 fn dropping(alloc: Global, c: &Catalogue, who: &Who, parts: &DropObject) -> Result<Plan, EditError>
     requires { IsGood c.now.items }
@@ -95,8 +111,18 @@ fn dropping(alloc: Global, c: &Catalogue, who: &Who, parts: &DropObject) -> Resu
     ensures sound { IfOk result (λ plan. IsSound c.now.items plan.edit) }
 {
     let restrict = where_restrict(parts.behaviour, false);
-    let edit = drop_object(alloc, c, who, parts.kind, &parts.object)?;
-    Ok(silent(edit, restrict))
+    Ok(silent(dropped(alloc, c, who, parts)?, restrict))
+}
+
+/// The behaviour of ALTER TABLE, where it drops.
+fn restrict_of(action: &AlterTableAction) -> Option<bool>
+    ensures { result ≡ kinds.restricts_of action.now }
+{
+    match action {
+        AlterTableAction::DropColumn { behaviour, .. }
+        | AlterTableAction::DropConstraint { behaviour, .. } => where_restrict(*behaviour, false),
+        _ => None,
+    }
 }
 
 /// What a statement does to a catalogue by itself, or the first of its refusals by the catalogue as it is (SQL:2003 part 2, 11 and 12):
@@ -121,6 +147,11 @@ pub fn plan_of(
         Statement::CreateTable(parts) => Ok(silent(create_table(alloc, c, who, parts)?, None)),
         Statement::CreateView(parts) => Ok(silent(create_view(alloc, c, who, parts)?, None)),
         Statement::CreateDomain(parts) => Ok(silent(create_domain(alloc, c, who, parts)?, None)),
+        Statement::CreateAssertion(parts) => Ok(silent(
+            create_assertion(alloc, c, who, parts)?,
+            None,
+        )),
+        Statement::AlterDomain(parts) => Ok(silent(alter_domain(alloc, c, who, parts)?, None)),
         Statement::CreateFunction(parts) => Ok(silent(
             create_function(alloc, c, who, parts)?,
             None,
@@ -129,6 +160,14 @@ pub fn plan_of(
             create_procedure(alloc, c, who, parts)?,
             None,
         )),
+        Statement::AlterTable(parts) => {
+            let restrict = restrict_of(&parts.action);
+            Ok(silent(alter_standing(alloc, c, who, parts)?, restrict))
+        }
+        Statement::DropSchema { schema, behaviour } => {
+            let restrict = where_restrict(*behaviour, false);
+            Ok(silent(drop_schema(alloc, c, who, schema)?, restrict))
+        }
         Statement::DropObject(parts) => dropping(alloc, c, who, parts),
         Statement::CreateRole(parts) => Ok(silent(create_role(alloc, c, who, parts)?, None)),
         Statement::DropRole(role) => Ok(silent(drop_role(alloc, c, who, role)?, Some(true))),

@@ -1,2 +1,1 @@
 pub mod CreatedSchemas
-pub mod Creations

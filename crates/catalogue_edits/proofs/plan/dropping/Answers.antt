@@ -1,7 +1,11 @@
-use Rattle.catalogue_edits.proofs.Plans.{dropped}
+use Rattle.std.proofs.Common.{◌∙◌, sym}
+use Rattle.catalogue_edits.specs.Kinds.{drop_kind}
+use Rattle.catalogue_edits.proofs.Plans.{drops_quietly, quietly}
 use Rattle.catalogue_edits.proofs.plan.dropping.Goals as goal
 
 pub returns-clause-planned : goal.returns-clause-planned
 returns-clause-planned c =
-    let tested = c.in_ok-edit.ensures.tested in
-    dropped c.args.parts.now.behaviour c.args.parts.now.kind c.args.parts.now.object c.args.c.now.items c.args.who.now _ _ c.silent.result c.silent.ensures tested.0 tested.1 c.where_restrict-restrict.ensures
+    let parts = c.args.parts.now in
+    let tested = c.in_ok-dropped.ensures.tested in
+    let quiet = drops_quietly parts.behaviour parts.kind parts.object c.args.c.now.items c.args.who.now _ in
+    quietly (drop_kind parts.behaviour parts.kind parts.object) c.args.c.now.items c.args.who.now _ _ c.silent.result c.silent.ensures tested.0 tested.1 quiet.0 (c.where_restrict-restrict.ensures ∙ sym quiet.1)

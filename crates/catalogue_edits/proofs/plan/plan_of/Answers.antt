@@ -1,6 +1,6 @@
 use Rattle.std.proofs.Common.{refl, subst, sym}
 use Rattle.sql_tree.specs.declared.statement.Statement.{Statement}
-use Rattle.sql_tree.specs.declared.statement.Statement.TheVariants.{CreateSchema, CreateTable, CreateView, CreateDomain, CreateFunction, CreateProcedure, CreateRole, DropRole, GrantPrivileges, GrantRoles, RevokePrivileges, RevokeRoles}
+use Rattle.sql_tree.specs.declared.statement.Statement.TheVariants.{AlterDomain, AlterTable, CreateAssertion, CreateSchema, CreateTable, CreateView, CreateDomain, CreateFunction, CreateProcedure, CreateRole, DropRole, DropSchema, GrantPrivileges, GrantRoles, RevokePrivileges, RevokeRoles}
 use Rattle.edit_rules.specs.First.{IsTested}
 use Rattle.statement_forms.specs.Written.{IsWritten}
 use Rattle.statement_forms.proofs.Forms.{table_forms}
@@ -107,3 +107,36 @@ returns-in_ok-grant-in-GrantPrivileges-clause-planned c =
     let by = tested.1.2 in
     planned _ (GrantPrivileges c.in-GrantPrivileges.parts) c.args.c.now.items c.args.who.now _ c.granting.result c.in-GrantPrivileges.is plan.edit tested.0 (tested.1.0, tested.1.1, by.edit)
     (tested.1.0, tested.1.1, warns_as _ _ _ c.granting.result.warning by.partial.0 by.partial.1 plan.warning) plan.restrict
+
+pub create_assertion-requires-clause-written : goal.create_assertion-requires-clause-written
+create_assertion-requires-clause-written c = subst IsWritten c.in-CreateAssertion.is c.requires.written
+
+pub returns-in_ok-create_assertion-in-CreateAssertion-clause-planned : goal.returns-in_ok-create_assertion-in-CreateAssertion-clause-planned
+unfolding kind_of
+returns-in_ok-create_assertion-in-CreateAssertion-clause-planned c =
+    let tested = c.in_ok-create_assertion-in-CreateAssertion.ensures.tested in
+    silently _ (CreateAssertion c.in-CreateAssertion.parts) c.args.c.now.items c.args.who.now _ _ c.silent-in-CreateAssertion.result c.in-CreateAssertion.is c.silent-in-CreateAssertion.ensures tested.0 tested.1 refl refl
+
+pub alter_domain-requires-clause-written : goal.alter_domain-requires-clause-written
+alter_domain-requires-clause-written c = subst IsWritten c.in-AlterDomain.is c.requires.written
+
+pub returns-in_ok-alter_domain-in-AlterDomain-clause-planned : goal.returns-in_ok-alter_domain-in-AlterDomain-clause-planned
+unfolding kind_of
+returns-in_ok-alter_domain-in-AlterDomain-clause-planned c =
+    let tested = c.in_ok-alter_domain-in-AlterDomain.ensures.tested in
+    silently _ (AlterDomain c.in-AlterDomain.parts) c.args.c.now.items c.args.who.now _ _ c.silent-in-AlterDomain.result c.in-AlterDomain.is c.silent-in-AlterDomain.ensures tested.0 tested.1 refl refl
+
+pub alter_standing-requires-clause-written : goal.alter_standing-requires-clause-written
+alter_standing-requires-clause-written c = subst IsWritten c.in-AlterTable.is c.requires.written
+
+pub returns-in_ok-alter_standing-in-AlterTable-clause-planned : goal.returns-in_ok-alter_standing-in-AlterTable-clause-planned
+unfolding kind_of
+returns-in_ok-alter_standing-in-AlterTable-clause-planned c =
+    let tested = c.in_ok-alter_standing-in-AlterTable.ensures.tested in
+    silently _ (AlterTable c.in-AlterTable.parts) c.args.c.now.items c.args.who.now _ _ c.silent-in-AlterTable.result c.in-AlterTable.is c.silent-in-AlterTable.ensures tested.0 tested.1 refl c.restrict_of-restrict.ensures
+
+pub returns-in_ok-drop_schema-in-DropSchema-clause-planned : goal.returns-in_ok-drop_schema-in-DropSchema-clause-planned
+unfolding kind_of
+returns-in_ok-drop_schema-in-DropSchema-clause-planned c =
+    let tested = c.in_ok-drop_schema-in-DropSchema.ensures.tested in
+    silently _ (DropSchema c.in-DropSchema.schema c.in-DropSchema.behaviour) c.args.c.now.items c.args.who.now _ _ c.silent-in-DropSchema.result c.in-DropSchema.is c.silent-in-DropSchema.ensures tested.0 tested.1 refl c.where_restrict-restrict.ensures
