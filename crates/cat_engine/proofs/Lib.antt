@@ -7,6 +7,7 @@ pub mod GoodStates
 pub mod HistoryLaws
 pub mod Kept
 pub mod LegalLaws
+pub mod OwnSessions
 pub mod SessionLaws
 pub mod Settled
 pub mod SharedLaws

@@ -1,6 +1,6 @@
 //! Laws of the steps of a book, over their definition alone.
 
-ghost use Rattle.std.specs.Prelude.{◌≡◌, ◌↔◌, ◌++◌, ◌∷◌, [], ℕ, List, Some};
+ghost use Rattle.std.specs.Prelude.{◌≡◌, ◌≢◌, ◌↔◌, ◌++◌, ◌∷◌, [], ℕ, List, None, Some};
 ghost use Rattle.std.specs.List.{Contains};
 ghost use Rattle.sql_names.specs.NameBytes.{NameBytes};
 ghost use Rattle.cat_items.specs.declared.edit.Refusal.{Refusal};
@@ -11,13 +11,17 @@ ghost use Rattle.cat_items.specs.Reach.{Has};
 ghost use Rattle.cat_items.specs.Rights.{IsAuthorization};
 ghost use Rattle.role_edit.specs.CreatedRoles.{IsTaken};
 ghost use Rattle.cat_engine.specs.Connections.{IsProperSession};
-ghost use Rattle.cat_engine.specs.Contents.{State};
+ghost use Rattle.cat_engine.specs.Contents.{Content, State};
+ghost use Rattle.cat_engine.specs.Effects.{ChangesSession};
 ghost use Rattle.cat_engine.specs.Histories.{IsAfter, IsReached, IsReplyAt, EachFindsRoom, IsLegal, IsOpening};
-ghost use Rattle.cat_engine.specs.Sessions.{session_of, who_of};
+ghost use Rattle.cat_engine.specs.Sessions.{current, session_of, set_for, who_of, with_setting};
 ghost use Rattle.cat_items.specs.declared.limits.Limits.{Limits};
 ghost use Rattle.cat_engine.specs.Steps.{Step};
 ghost use Rattle.cat_engine.specs.declared.journal.Entry.{Entry};
 ghost use Rattle.cat_engine.specs.declared.reply.Reply.{Reply};
+ghost use Rattle.cat_engine.specs.declared.session.Connection.{Connection};
+ghost use Rattle.cat_engine.specs.declared.session.Session.{Session};
+ghost use Rattle.cat_engine.specs.declared.session.Setting.{Setting};
 
 /// A state, a session and its text settle the reply and the state after it.
 pub fn a_step_is_settled()
@@ -86,4 +90,18 @@ pub fn connected_users_stand()
 pub fn taken_roles_are_those_that_stand()
     ensures { (state : State) → IsReached state → (number : ℕ) (who : Who) → who_of state.content.sessions number ≡ Some who → (name : NameBytes)
         → IsTaken state.content.catalogue who name ↔ Has state.content.catalogue (IsAuthorization name) }
+{}
+
+/// A statement on connections changes the session of its own number, and all others stay (SQL:2003 part 2, 17).
+pub fn a_session_changes_alone()
+    ensures own { (number : ℕ) (change : Session → Session) (old new : Content) → ChangesSession number change old new
+        → session_of new.sessions number ≡ change (session_of old.sessions number) }
+    ensures others { (number other : ℕ) (change : Session → Session) (old new : Content) → other ≢ number → ChangesSession number change old new
+        → session_of new.sessions other ≡ session_of old.sessions other }
+{}
+
+/// What SET SCHEMA and SET ROLE set is so for the session's current connection; where there is none, nothing is set (SQL:2003 part 2, 18).
+pub fn a_setting_is_that_of_the_current_connection()
+    ensures set { (session : Session) (setting : Setting) (c : Connection) → current session ≡ Some c → current (set_for session setting) ≡ Some (with_setting setting c) }
+    ensures nothing { (session : Session) (setting : Setting) → current session ≡ None → set_for session setting ≡ session }
 {}

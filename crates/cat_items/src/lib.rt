@@ -14,7 +14,6 @@ mod ranges;
 mod room;
 mod row;
 mod sameness;
-mod texts;
 mod threads;
 
 pub use catalogue::{Catalogue, compare_items, find, owner_of};
@@ -34,5 +33,4 @@ pub use ranges::{
 pub use row::{Cell, Row};
 pub use sameness::same_item;
 pub use sql_names::Shared;
-pub use texts::{item_text, need_text};
 pub use threads::{catalogue_may_be_shared, item_may_be_shared};

@@ -5,12 +5,11 @@ ghost use Rattle.statement_forms.specs.Written.{IsWritten};
 
 use crate::cases::{CYCLE, EDITS, GRANTED, RESTING, ROLES};
 use cat_engine::{Book, Reply};
-use cat_items::{
-    Auth, Catalogue, Item, Limits, Marks, Shared, View, Who, find, item_text, need_text, same_item,
-};
+use cat_items::{Auth, Catalogue, Item, Limits, Marks, Shared, View, Who, find, same_item};
 use catalogue_edits::{Plan, is_edit, plan_of};
 use grant_chain::survivors;
 use item_index::Steps;
+use item_texts::{item_text, need_text};
 use role_graph::{Walk, applicable, enabled, makes_cycle, reaches};
 use sql_grammar::statement;
 use sql_tree::{Items, Name, Object, Statement, Text};

@@ -31,8 +31,8 @@ use Rattle.assertion_edit.proofs.NewAssertions.{assertion_edit_settled, assertio
 use Rattle.domain_edits.proofs.Alterations.{alter_domain_edit_settled, alter_domain_refusals_settled}
 use Rattle.domain_edits.proofs.NewDomains.{domain_edit_settled, domain_refusals_settled}
 use Rattle.object_edits.proofs.ViewsSettled.{view_edit_settled, view_refusals_settled}
-use Rattle.table_definitions.proofs.Settled as tables
-use Rattle.table_changes.proofs.Settled.{standing_edit_settled, standing_refusals_settled}
+use Rattle.table_additions.proofs.Settled.{alter_table_refusals_settled, alteration_settled}
+use Rattle.table_creation.proofs.NewTables as tables
 use Rattle.domain_drop.proofs.DomainDrops.{drop_domain_edit_settled, drop_domain_refusals_settled}
 use Rattle.domain_drop.proofs.SchemaDrops.{drop_schema_edit_settled, drop_schema_refusals_settled}
 use Rattle.define_edit.specs.CreatedSchemas.{create_schema_refusals}
@@ -121,7 +121,7 @@ kind_settled (CreateProcedure s) = record {
   edit = λ c who a b p q. routine_edit_settled c who (procedure_signature who s) s.body a b p q;
   warning = silent_settled;
 }
-kind_settled (AlterTable s) = record { refusals = λ c who. standing_refusals_settled c who s; edit = λ c who a b p q. standing_edit_settled c who s a b p q; warning = silent_settled }
+kind_settled (AlterTable s) = record { refusals = λ c who. alter_table_refusals_settled c who s; edit = λ c who a b p q. alteration_settled c who s a b p q; warning = silent_settled }
 kind_settled (DropSchema schema behaviour) = record { refusals = λ c who. drop_schema_refusals_settled c who schema; edit = λ c who a b p q. drop_schema_edit_settled c schema a b p q; warning = silent_settled }
 kind_settled (DropObject d) = drop_kind_settled d.behaviour d.kind d.object
 kind_settled (CreateRole r) = record { refusals = λ c who. creation_refusals_settled c who r; edit = λ c who a b p q. creation_settled c who r a b p q; warning = silent_settled }

@@ -33,10 +33,8 @@ use Rattle.sql_tree.specs.declared.statement.DropKind.{DropKind}
 use Rattle.sql_tree.specs.declared.statement.DropKind.TheVariants as kind
 use Rattle.domain_drop.proofs.DomainDrops.{domain_drop_leaves_users, sound_domain_drop}
 use Rattle.domain_drop.proofs.SchemaDrops.{schema_drop_leaves_users, sound_schema_drop}
-use Rattle.statement_forms.proofs.Forms.{table_forms}
-use Rattle.table_parts.specs.Parts.{parts_in}
-use Rattle.table_changes.proofs.Settled.{sound_standing, standing_leaves_users}
-use Rattle.table_definitions.proofs.SoundCreations.{sound_creation as sound_table}
+use Rattle.table_additions.proofs.Settled.{alteration_leaves_users as table_alteration_leaves_users, sound_alteration as sound_table_alteration}
+use Rattle.table_creation.proofs.NewTables.{creation_leaves_users, sound_creation as sound_table}
 use Rattle.routine_edit.specs.CreatedRoutines.{function_signature, procedure_signature}
 use Rattle.routine_edit.proofs.Settled.{function_is_sound, procedure_is_sound, routine_leaves_users}
 use Rattle.assertion_edit.proofs.NewAssertions.{assertion_leaves_users, sound_creation as sound_assertion}
@@ -110,14 +108,14 @@ pub edit_is_sound : (c : List Item) (who : Who) (s : Statement) (edit : Edit) �
 unfolding kind_of
 edit_is_sound c who (CreateSchema s) edit good written passed is =
     sound_schema c who (schema_name s.schema) (schema_owner s.schema who) (schema_name s.schema) (schema_owner s.schema who) edit good refl is passed
-edit_is_sound c who (CreateTable s) edit good written passed is = sound_table c who (object_in who.schema s.table) (parts_in s.elements) edit good passed (table_forms s written) is
+edit_is_sound c who (CreateTable s) edit good written passed is = sound_table c who s edit good written passed is
 edit_is_sound c who (CreateView s) edit good written passed is = sound_view c who s edit good written passed is
 edit_is_sound c who (CreateDomain s) edit good written passed is = sound_domain c who s edit good written passed is
 edit_is_sound c who (CreateAssertion s) edit good written passed is = sound_assertion c who s edit good written passed is
 edit_is_sound c who (AlterDomain s) edit good written passed is = sound_alteration c who s edit good written passed is
 edit_is_sound c who (CreateFunction s) edit good written passed is = function_is_sound c who s edit good written passed is
 edit_is_sound c who (CreateProcedure s) edit good written passed is = procedure_is_sound c who s edit good written passed is
-edit_is_sound c who (AlterTable s) edit good written passed is = sound_standing c who s edit good written passed is
+edit_is_sound c who (AlterTable s) edit good written passed is = sound_table_alteration c who s edit good written passed is
 edit_is_sound c who (DropSchema schema behaviour) edit good written passed is = sound_schema_drop c schema edit good is
 edit_is_sound c who (DropObject d) edit good written passed is = object_is_dropped_soundly c who d.behaviour d.kind d.object edit good is
 edit_is_sound c who (CreateRole r) edit good written passed is = role_is_created_soundly c who r edit good passed is
@@ -179,8 +177,8 @@ object_drop_leaves_users c who behaviour kind.Routine name edit is = taken_leave
 pub edit_leaves_users : (c : List Item) (who : Who) (s : Statement) (edit : Edit) → IsEditOf c who s edit → LeavesUsers edit
 unfolding kind_of
 edit_leaves_users c who (CreateSchema s) edit is = schema_leaves_users edit (item.Schema (record { name = schema_name s.schema; owner = schema_owner s.schema who })) (λ name e. cc) is
-edit_leaves_users c who (CreateTable s) edit is = adding_leaves_users _ edit is.2 (λ name h. h)
-edit_leaves_users c who (AlterTable s) edit is = standing_leaves_users c who s edit is
+edit_leaves_users c who (CreateTable s) edit is = creation_leaves_users c who s edit is
+edit_leaves_users c who (AlterTable s) edit is = table_alteration_leaves_users c who s edit is
 edit_leaves_users c who (DropSchema schema behaviour) edit is = schema_drop_leaves_users c schema edit is
 edit_leaves_users c who (CreateView s) edit is = view_leaves_users c who s edit is
 edit_leaves_users c who (CreateDomain s) edit is = domain_leaves_users c who s edit is

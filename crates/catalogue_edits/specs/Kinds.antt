@@ -15,9 +15,8 @@ use Rattle.cat_items.specs.declared.edit.Refusal.{Refusal}
 use Rattle.cat_items.specs.declared.edit.Who.{Who}
 use Rattle.cat_items.specs.declared.item.Item.{Item}
 use Rattle.edit_rules.specs.Names.{object_in}
-use Rattle.table_changes.specs.Changes.{IsOfStanding, IsTableChange, change_refusals}
-use Rattle.table_definitions.specs.Built.{IsBuiltTable}
-use Rattle.table_definitions.specs.Tables.{IsTableCreation, create_table_refusals}
+use Rattle.table_additions.specs.Alterations.{IsTableAlteration, alter_table_refusals}
+use Rattle.table_creation.specs.Tables.{IsTableCreation, create_table_refusals}
 use Rattle.object_edits.specs.CreatedViews.{IsViewCreation, create_view_refusals}
 use Rattle.domain_edits.specs.AlteredDomains.{IsDomainAlteration, alter_domain_refusals}
 use Rattle.domain_edits.specs.CreatedDomains.{IsDomainCreation, create_domain_refusals}
@@ -81,17 +80,17 @@ restricts_of (DropColumn column behaviour) = where_restrict behaviour false
 restricts_of (DropConstraint constraint behaviour) = where_restrict behaviour false
 restricts_of action = None
 
--- CREATE SCHEMA without elements, CREATE TABLE without domains and CHECK, ALTER TABLE without ADD, and all other statements that edit
+-- CREATE SCHEMA without elements, and all other statements that edit
 unfoldable pub kind_of : Statement → Kind
 kind_of (CreateSchema s) = record { built = s.elements ≡ []; refusals = λ c who. create_schema_refusals c who s.schema; makes = λ c who edit. edit ≡ create_schema_edit who s.schema; warns = is_silent; restricts = None }
-kind_of (CreateTable s) = record { built = IsBuiltTable s.elements; refusals = λ c who. create_table_refusals c who s; makes = λ c who. IsTableCreation c who s; warns = is_silent; restricts = None }
+kind_of (CreateTable s) = record { built = Unit {0}; refusals = λ c who. create_table_refusals c who s; makes = λ c who. IsTableCreation c who s; warns = is_silent; restricts = None }
 kind_of (CreateView s) = record { built = Unit {0}; refusals = λ c who. create_view_refusals c who s; makes = λ c who. IsViewCreation c who s; warns = is_silent; restricts = None }
 kind_of (CreateDomain s) = record { built = Unit {0}; refusals = λ c who. create_domain_refusals c who s; makes = λ c who. IsDomainCreation c who s; warns = is_silent; restricts = None }
 kind_of (CreateAssertion s) = record { built = Unit {0}; refusals = λ c who. create_assertion_refusals c who s; makes = λ c who. IsAssertionCreation c who s; warns = is_silent; restricts = None }
 kind_of (AlterDomain s) = record { built = Unit {0}; refusals = λ c who. alter_domain_refusals c who s; makes = λ c who. IsDomainAlteration c who s; warns = is_silent; restricts = None }
 kind_of (CreateFunction s) = record { built = Unit {0}; refusals = λ c who. create_function_refusals c who s; makes = λ c who. IsFunctionCreation c who s; warns = is_silent; restricts = None }
 kind_of (CreateProcedure s) = record { built = Unit {0}; refusals = λ c who. create_procedure_refusals c who s; makes = λ c who. IsProcedureCreation c who s; warns = is_silent; restricts = None }
-kind_of (AlterTable s) = record { built = IsOfStanding s.action; refusals = λ c who. change_refusals c who s; makes = λ c who. IsTableChange c who s; warns = is_silent; restricts = restricts_of s.action }
+kind_of (AlterTable s) = record { built = Unit {0}; refusals = λ c who. alter_table_refusals c who s; makes = λ c who. IsTableAlteration c who s; warns = is_silent; restricts = restricts_of s.action }
 kind_of (DropSchema schema behaviour) = record { built = Unit {0}; refusals = λ c who. drop_schema_refusals c who schema; makes = λ c who. IsSchemaDrop c schema; warns = is_silent; restricts = where_restrict behaviour false }
 kind_of (DropObject d) = drop_kind d.behaviour d.kind d.object
 kind_of (CreateRole r) = record { built = Unit {0}; refusals = λ c who. create_role_refusals c who r; makes = λ c who. IsRoleCreation c who r; warns = is_silent; restricts = None }

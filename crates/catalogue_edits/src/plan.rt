@@ -23,8 +23,8 @@ use role_edit::{create_role, grant_roles, revoke_roles};
 use routine_edit::{create_function, create_procedure};
 use sql_tree::{AlterTableAction, Behaviour, DropKind, DropObject, Statement};
 use std::alloc::Global;
-use table_changes::alter_standing;
-use table_definitions::create_table;
+use table_additions::alter_table;
+use table_creation::create_table;
 
 /// An edit, what the statement that makes it warns of, and whether the statement has the behaviour RESTRICT: then
 /// whether its refusal is that of REVOKE and DROP ROLE.
@@ -162,7 +162,7 @@ pub fn plan_of(
         )),
         Statement::AlterTable(parts) => {
             let restrict = restrict_of(&parts.action);
-            Ok(silent(alter_standing(alloc, c, who, parts)?, restrict))
+            Ok(silent(alter_table(alloc, c, who, parts)?, restrict))
         }
         Statement::DropSchema { schema, behaviour } => {
             let restrict = where_restrict(*behaviour, false);

@@ -4,7 +4,6 @@ ghost use Rattle.std.specs.Prelude.{◌≡◌, ◌↔◌, IsTrue};
 ghost use Rattle.cat_items.specs.Good.{IsGood};
 ghost use Rattle.statement_forms.specs.Written.{IsWritten};
 ghost use Rattle.edit_rules.specs.First.{Tested};
-ghost use Rattle.table_changes.specs.Changes.{IsOfStanding};
 ghost use Rattle.catalogue_edits.specs.Revisions.{IsRevised, revision_refusals};
 ghost use Rattle.catalogue_edits.specs.Statements.{IsBuiltEdit};
 
@@ -12,19 +11,8 @@ use crate::outcome::outcome;
 use crate::plan::plan_of;
 use crate::warning::Warning;
 use cat_items::{Catalogue, EditError, Limits, Who};
-use sql_tree::{AlterTableAction, Statement};
+use sql_tree::Statement;
 use std::alloc::Global;
-use table_definitions::is_built;
-
-/// Whether ALTER TABLE is on what stands.
-fn is_of_standing(action: &AlterTableAction) -> bool
-    ensures { IsTrue result ↔ IsOfStanding action.now }
-{
-    !matches!(
-        action,
-        AlterTableAction::AddColumn(_) | AlterTableAction::AddConstraint(_)
-    )
-}
 
 /// Whether a statement edits the catalogue, and is of a kind that is built.
 #[tactic(auto, unfolding(crate::specs::Kinds::kind_of))]
@@ -33,8 +21,6 @@ pub fn is_edit(statement: &Statement) -> bool
 {
     match statement {
         Statement::CreateSchema(parts) => parts.elements.is_empty(),
-        Statement::CreateTable(parts) => is_built(&parts.elements),
-        Statement::AlterTable(parts) => is_of_standing(&parts.action),
         Statement::Connect(_) | Statement::SetConnection(_) | Statement::Disconnect(_) => false,
         Statement::SetSchema(_) | Statement::SetRole(_) | Statement::Select(_) => false,
         _ => true,

@@ -36,8 +36,8 @@ use Rattle.table_names.specs.declared.named.NamedConstraint.{NamedConstraint}
 use Rattle.table_names.specs.Given.{given_names}
 use Rattle.table_names.specs.Named.{IsFree}
 use Rattle.table_names.specs.Refusals.{exists_in}
-use Rattle.table_keys.specs.Keys.{beside}
-use Rattle.table_rules.proofs.Settled.{constraints_settled}
+use Rattle.table_work.specs.Keys.{beside}
+use Rattle.table_names.proofs.NamesSettled.{constraints_settled}
 use Rattle.domain_edits.specs.AlteredDomains.{AddsChecks, IsAddedCheck, IsCheckNamed, IsDomainAlteration, PutsBack, WhereItStands, alter_domain_refusals, alteration_steps, check_steps, default_steps, domain_in, drop_steps, unresolved_in, with_default}
 use Rattle.domain_edits.specs.Checks.{outcome_of, parts_of}
 use Rattle.domain_edits.proofs.ChangedDomains.{one_name}

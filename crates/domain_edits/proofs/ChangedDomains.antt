@@ -26,12 +26,12 @@ use Rattle.edit_rules.specs.First.{First, IsTested, Passes}
 use Rattle.edit_rules.proofs.FirstLaws.{passes_one, tested_by_others}
 use Rattle.statement_steps.specs.Steps.{Nothing, where_it_is}
 use Rattle.statement_steps.proofs.Additions.{nothing_chosen}
+use Rattle.table_parts.specs.Classes.{IsMisfit}
 use Rattle.table_names.specs.declared.named.NamedConstraint.{NamedConstraint}
-use Rattle.table_names.specs.Named.{HaveOwnNames}
-use Rattle.table_rules.specs.Rules.{AreConstraints}
-use Rattle.domain_edits.specs.AlteredDomains.{AddsChecks, IsAddedCheck, IsCheckNamed, PutsBack, WhereItStands, check_steps, default_steps, domain_in, drop_steps, unknown_check, unknown_domain, unresolved_in, with_default}
+use Rattle.table_names.specs.Named.{AreConstraints, HaveOwnNames}
+use Rattle.table_elements.specs.Names.{unknown_domain}
+use Rattle.domain_edits.specs.AlteredDomains.{AddsChecks, IsAddedCheck, IsCheckNamed, PutsBack, WhereItStands, check_steps, default_steps, domain_in, drop_steps, unknown_check, unresolved_in, with_default}
 use Rattle.domain_edits.specs.Checks.{HasNoType, NeededByChecks, parts_of, unresolved_checks}
-use Rattle.domain_edits.specs.CreatedDomains.{IsMisfit}
 use Rattle.domain_edits.specs.Found.{AreFound, Asks, HasNone, IsCheckAmong}
 use Rattle.domain_edits.proofs.FoundLemmas.{found_length, needs_are, none_is}
 use Rattle.domain_edits.proofs.MadeChecks.{checks_made, only_checks}

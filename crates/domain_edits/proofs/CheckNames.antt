@@ -20,10 +20,9 @@ use Rattle.edit_rules.proofs.FirstLaws.{passes_first, passes_rest}
 use Rattle.table_parts.specs.Parts.{constraints_of}
 use Rattle.table_names.specs.declared.named.NamedConstraint.{NamedConstraint}
 use Rattle.table_names.specs.Given.{given_names}
-use Rattle.table_names.specs.Named.{AreNamed, HaveOwnNames, IsFree, IsNameFor}
+use Rattle.table_names.specs.Named.{AreConstraints, AreNamed, HaveOwnNames, IsFree, IsNameFor}
 use Rattle.table_names.specs.Refusals.{exists_in}
-use Rattle.table_keys.specs.Keys.{beside}
-use Rattle.table_rules.specs.Rules.{AreConstraints}
+use Rattle.table_work.specs.Keys.{beside}
 use Rattle.domain_edits.specs.Checks.{parts_of}
 use Rattle.domain_edits.specs.CreatedDomains.{taken_checks}
 use Rattle.domain_edits.proofs.SoundDomains.{AreFormedChecks, same_written}

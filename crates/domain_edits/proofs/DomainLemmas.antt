@@ -1,67 +1,32 @@
--- Domains under their names, errors of tests, and lists that grow.
+-- Marks, and lists that grow.
 use Rattle.std.proofs.Common.{◌≡◌, ◌≢◌, ◌⊎◌, ◌↔◌, ℕ, ◌+◌, ◌<◌, List, [], ◌∷◌, ◌++◌, length, take, get_or, Option, None, Some, Ok, Err, ap, sym, subst, refl, ◌∙◌, inl, inr, arith}
 use Rattle.std.specs.List.{Any, Contains}
-use Rattle.std.specs.Ordering.{ordering_reverse, ordering_then}
-use Rattle.std.specs.Result.{IsErrAnd}
 use Rattle.std.specs.Prelude.{OnOk}
-use Rattle.std.specs.declared.cmp.Ordering.{Ordering}
-use Rattle.std.specs.declared.cmp.Ordering.TheVariants.{Less, Equal, Greater}
+use Rattle.std.specs.declared.cmp.Ordering.TheVariants.{Equal}
 use Rattle.std.specs.declared.result.Result.{Result}
 use Rattle.std.proofs.lemmas.List.{get_or-take, get_or_default, length-take-le}
 use Rattle.std.proofs.lemmas.List.Elements.{Contains-append_cases, Contains-append_left, Contains-append_right, Contains-push, Contains-push_cases}
-use Rattle.sql_names.specs.Names.{name_cmp-IsAntisymmetric}
 use Rattle.sql_names.specs.declared.object.Object.{Object}
-use Rattle.cat_items.specs.declared.edit.EditError.{EditError}
-use Rattle.cat_items.specs.declared.edit.EditError.TheVariants.{Refused, Memory}
-use Rattle.cat_items.specs.declared.edit.Refusal.{Refusal}
 use Rattle.cat_items.specs.declared.item.DomainCheck.{DomainCheck}
 use Rattle.cat_items.specs.declared.item.Item.{Item}
 use Rattle.cat_items.specs.declared.item.Item.TheVariants as item
 use Rattle.cat_items.specs.declared.need.Need.{Need}
-use Rattle.cat_items.specs.Order.{item_cmp, key_cmp, kind_of, name_cmp, object_cmp}
-use Rattle.cat_items.specs.Ranges.{IsDomainOf}
-use Rattle.cat_items.specs.Reach.{Has}
-use Rattle.cat_items.specs.Rights.{path_of, IsDomain}
-use Rattle.cat_items.proofs.OrderLemmas.{item_cmp-total}
-use Rattle.role_graph.proofs.MeetingLemmas.{same_object}
+use Rattle.cat_items.specs.Order.{item_cmp, key_cmp, kind_of}
 use Rattle.view_deps.specs.declared.resolve.ResolvedExpr.{ResolvedExpr}
 use Rattle.edit_rules.proofs.Lists.{take_next}
-use Rattle.edit_rules.specs.First.{HasPassed, IsTested}
+use Rattle.edit_laws.proofs.KeysAndNames.{kind_and_key, object_by_key, turned}
 use Rattle.table_parts.specs.declared.marks.Mark.{Mark}
 use Rattle.table_parts.specs.Marks.{IsRepeated, MarksDiffer}
 use Rattle.statement_steps.proofs.Repeats.{differ_without}
 use Rattle.table_names.specs.declared.named.NamedConstraint.{NamedConstraint}
 use Rattle.table_names.specs.Named.{HaveOwnNames}
-use Rattle.table_definitions.proofs.MadeItems.{kind_and_key}
 use Rattle.domain_edits.specs.Found.{Asks, IsCheckBy, IsCheckHere}
 
--- ---- names
-
-lies : (o : Object) (y : Item) → IsDomainOf o y → IsDomain (path_of o) y
-lies o (item.Domain d) e = ap path_of (sym e)
-lies o y e = absurd e
-
-named_so : (o : Object) (y : Item) → IsDomain (path_of o) y → IsDomainOf o y
-named_so o (item.Domain d) e = same_object o d.domain e
-named_so o y e = absurd e
-
-pub domain_there : (c : List Item) (o : Object) → Has c (IsDomainOf o) ↔ Has c (IsDomain (path_of o))
-domain_there c o = (λ h. (h.0, h.1, lies o h.0 h.2), λ h. (h.0, h.1, named_so o h.0 h.2))
+-- ---- names and results
 
 -- where no mark is the first that comes twice, marks differ
 pub marks_differ : (all : List Mark) → ((mark : Mark) → IsRepeated all mark → ⊥) → MarksDiffer all
 marks_differ all none = differ_without all (λ mark again. none mark (record { before = again.before; after = again.after; parts = again.parts; differ = again.differ; again = again.again }))
-
--- ---- errors
-
-pub error_passes : {T : Type 0} (tests : List (Refusal → Type 0)) (Done : T → Type 0) (e : EditError) → IsTested tests Done (Err e) → HasPassed {T = T} tests (Err e)
-error_passes tests Done (Refused r) h = h
-error_passes tests Done Memory h = h
-
-pub exit_tested : {U : Type 0} (tests : List (Refusal → Type 0)) (Done : U → Type 0) (e : EditError) (exit : Result U EditError) → IsErrAnd exit (λ x. x ≡ e) → HasPassed {T = U} tests exit → IsTested tests Done exit
-exit_tested tests Done e (Ok v) is h = absurd is
-exit_tested tests Done e (Err (Refused r)) is h = h
-exit_tested tests Done e (Err Memory) is h = h
 
 pub on_ok : {T E : Type 0} (r : Result T E) (P Q : Type 0) → (P → Q) → OnOk r P → OnOk r Q
 on_ok (Ok v) P Q f h = f h
@@ -98,25 +63,13 @@ asked_more all shown i x old new need same low is before gains = subst (λ l. Co
 
 -- ---- checks that are put in
 
-both_equal : (a b : Ordering) → ordering_then a b ≡ Equal → (a ≡ Equal) × (b ≡ Equal)
-both_equal Less b e = absurd (let odd : Less ≡ Equal = e in cc)
-both_equal Equal b e = (refl, e)
-both_equal Greater b e = absurd (let odd : Greater ≡ Equal = e in cc)
-
-object_by_key : (a b : Object) → object_cmp a b ≡ Equal → a ≡ b
-object_by_key a b e =
-    let both = both_equal (name_cmp a.schema b.schema) (name_cmp a.name b.name) e in
-    let schemas : a.schema ≡ b.schema = name_cmp-IsAntisymmetric a.schema b.schema both.0 in
-    let names : a.name ≡ b.name = name_cmp-IsAntisymmetric a.name b.name both.1 in
-    λ i. record { schema = schemas i; name = names i }
-
 check_by_key : (x : DomainCheck) (y : Item) → 8 ≡ kind_of y → key_cmp (item.DomainCheck x) y ≡ Equal → (z : DomainCheck) × (y ≡ item.DomainCheck z) × (z.name ≡ x.name)
 check_by_key x (item.DomainCheck z) k e = (z, refl, sym (object_by_key x.name z.name e))
 check_by_key x y k e = absurd (omega (arith, k))
 
 pub check_is_new : (old : List Item) (x : DomainCheck) → ((z : DomainCheck) → Contains old (item.DomainCheck z) → z.name ≢ x.name) → (y : Item) → Contains old y → item_cmp y (item.DomainCheck x) ≡ Equal → y ≡ item.DomainCheck x
 check_is_new old x others y h e =
-    let both = kind_and_key (item.DomainCheck x) y (item_cmp-total.antisymm (item.DomainCheck x) y ∙ ap ordering_reverse e) in
+    let both = kind_and_key (item.DomainCheck x) y (turned y (item.DomainCheck x) e) in
     let found = check_by_key x y both.0 both.1 in
     absurd (others found.0 (subst (Contains old) found.1 h) found.2)
 

@@ -21,8 +21,8 @@ use Rattle.edit_rules.proofs.Lists.{take_next}
 use Rattle.table_parts.specs.Parts.{constraints_of}
 use Rattle.table_names.specs.declared.named.NamedConstraint.{NamedConstraint}
 use Rattle.table_names.specs.Named.{AreNamed}
-use Rattle.table_keys.specs.Keys.{beside}
-use Rattle.table_definitions.proofs.ListMembers.{contains_from_any}
+use Rattle.table_work.specs.Keys.{beside}
+use Rattle.table_parts.proofs.ListMembers.{contains_from_any}
 use Rattle.domain_edits.specs.Checks.{IsCheckMade, IsCheckOf, check_scope, outcome_of, parts_of}
 use Rattle.domain_edits.specs.Found.{AreFound, IsCheckAmong, IsCheckHere}
 use Rattle.statement_steps.proofs.Additions.{needs_settled}

@@ -31,11 +31,10 @@ use Rattle.statement_forms.specs.Written.{IsWritten}
 use Rattle.table_parts.specs.Marks.{MarksDiffer, marks_in}
 use Rattle.table_names.specs.declared.named.NamedConstraint.{NamedConstraint}
 use Rattle.table_names.specs.Given.{given_names}
-use Rattle.table_names.specs.Named.{HaveOwnNames}
+use Rattle.table_names.specs.Named.{AreConstraints, HaveOwnNames}
 use Rattle.table_names.specs.Refusals.{exists_in, repeated_name, told}
-use Rattle.table_keys.proofs.OwnKeys.{own_names}
-use Rattle.table_rules.specs.Rules.{AreConstraints}
-use Rattle.table_rules.proofs.Settled.{constraints_settled, table_refusals_settled}
+use Rattle.table_names.proofs.OwnNames.{own_names}
+use Rattle.table_names.proofs.NamesSettled.{constraints_settled, repeated_settled}
 use Rattle.statement_steps.specs.Resolving.{unresolved_name}
 use Rattle.statement_steps.specs.Steps.{MakesEdit, Nothing, Steps, no_least_privilege, refusals_of}
 use Rattle.statement_steps.proofs.Additions.{addition_leaves_users, nothing_chosen}
@@ -135,7 +134,7 @@ created_soundly c who s (Err e) good written tested = tt
 pub domain_refusals_settled : (c : List Item) (who : Who) (s : CreateDomain) → AreSettled (create_domain_refusals c who s)
 domain_refusals_settled c who s =
     let d : Domain = domain_of who s in
-    steps_settled c who (steps_of_domain c who d s.checks) ((table_refusals_settled c who d.domain (parts_of s.checks)).0, tt)
+    steps_settled c who (steps_of_domain c who d s.checks) (repeated_settled d.domain (parts_of s.checks), tt)
     ((λ a b p q. p.1 ∙ sym q.1), settled_map (λ k. unresolved_name (outcome_of c who d.sort k)) (λ k. unresolved_settled (outcome_of c who d.sort k)) s.checks)
     (one_told (Has c (IsDomain (path_of d.domain))) (NameExists (path_of d.domain)), settled_map (exists_in c d.domain.schema) (λ n a b p q. p.1 ∙ sym q.1) (given_names (parts_of s.checks)))
     ((λ a b p q. p.1 ∙ sym q.1), tt)

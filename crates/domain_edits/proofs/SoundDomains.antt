@@ -29,8 +29,8 @@ use Rattle.statement_steps.specs.Steps.{MakesEdit, Nothing}
 use Rattle.statement_steps.proofs.Additions.{needs_settled, sound_addition}
 use Rattle.table_names.specs.declared.named.NamedConstraint.{NamedConstraint}
 use Rattle.table_names.specs.Named.{HaveOwnNames}
-use Rattle.table_keys.specs.Keys.{beside}
-use Rattle.table_definitions.proofs.ListMembers.{contains_from_any, one_of_pairs}
+use Rattle.table_work.specs.Keys.{beside}
+use Rattle.table_parts.proofs.ListMembers.{contains_from_any, one_of_pairs}
 use Rattle.edit_conditions.specs.Conditions.{outcome_in}
 use Rattle.edit_conditions.proofs.Found.{condition_resolved}
 use Rattle.domain_edits.specs.Checks.{IsCheckMade, IsCheckOf, check_scope}

@@ -19,8 +19,9 @@ use Rattle.view_deps.proofs.Described.{itself, same_or_not}
 use Rattle.edit_rules.specs.First.{First, Passes}
 use Rattle.edit_rules.proofs.NameLemmas.{in_range}
 use Rattle.edit_rules.proofs.FirstLaws.{passes_one}
-use Rattle.domain_edits.specs.AlteredDomains.{WhereItStands, domain_in, domains_in, unknown_domain}
-use Rattle.domain_edits.proofs.DomainLemmas.{domain_there}
+use Rattle.table_elements.specs.Names.{unknown_domain}
+use Rattle.table_elements.proofs.DomainNames.{domain_there}
+use Rattle.domain_edits.specs.AlteredDomains.{WhereItStands, domain_in, domains_in}
 
 -- domains of one name are one
 pub one_domain : (c : List Item) → IsGood c → (x y : Domain) → Contains c (item.Domain x) → Contains c (item.Domain y) → x.domain ≡ y.domain → x ≡ y

@@ -17,16 +17,18 @@ use Rattle.cat_items.specs.declared.item.Item.{Item}
 use Rattle.cat_items.specs.declared.item.Item.TheVariants as item
 use Rattle.cat_items.specs.declared.need.Need.{Need}
 use Rattle.cat_items.specs.Reach.{Has}
-use Rattle.cat_items.specs.Rights.{path_of, IsDomain}
+use Rattle.cat_items.specs.Rights.{path_of}
 use Rattle.name_scopes.specs.Known.{same_object}
 use Rattle.view_deps.specs.Described.{first_of}
 use Rattle.edit_rules.specs.Names.{object_in}
+use Rattle.table_parts.specs.Classes.{IsMisfit}
 use Rattle.table_names.specs.declared.named.NamedConstraint.{NamedConstraint}
-use Rattle.table_keys.specs.Keys.{beside}
-use Rattle.table_rules.specs.Rules.{AreConstraints}
+use Rattle.table_work.specs.Keys.{beside}
+use Rattle.table_names.specs.Named.{AreConstraints}
 use Rattle.statement_steps.specs.Steps.{MakesEdit, Nothing, Steps, refusals_of, where_it_is}
+use Rattle.table_elements.specs.Names.{unknown_domain}
 use Rattle.domain_edits.specs.Checks.{HasNoType, IsCheckMade, NeededByChecks, parts_of, unresolved_checks}
-use Rattle.domain_edits.specs.CreatedDomains.{IsMisfit, taken_checks}
+use Rattle.domain_edits.specs.CreatedDomains.{taken_checks}
 
 -- ---- the domain
 
@@ -43,9 +45,6 @@ domain_in c o = first_of (flat_map (domains_in o) c)
 abbrev pub WhereItStands : Option Domain → (Domain → Type 0) → Type 0
 WhereItStands (Some d) P = P d
 WhereItStands None P = ⊥
-
-abbrev pub unknown_domain : List Item → Object → Refusal → Type 0
-unknown_domain c o = where_it_is (¬ (Has c (IsDomain (path_of o)))) (UnknownName (path_of o))
 
 abbrev pub no_need : Need → Type 0
 no_need need = ⊥

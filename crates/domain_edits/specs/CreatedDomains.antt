@@ -17,13 +17,11 @@ use Rattle.cat_items.specs.declared.item.Item.TheVariants as item
 use Rattle.cat_items.specs.Reach.{Has}
 use Rattle.cat_items.specs.Rights.{path_of, IsDomain}
 use Rattle.edit_rules.specs.Names.{object_in, unknown_schema}
-use Rattle.table_parts.specs.declared.classes.Class.{Class}
-use Rattle.table_parts.specs.Classes.{class_of}
+use Rattle.table_parts.specs.Classes.{IsMisfit}
 use Rattle.table_names.specs.Given.{given_names}
 use Rattle.table_names.specs.Refusals.{exists_in, repeated_name}
 use Rattle.table_names.specs.declared.named.NamedConstraint.{NamedConstraint}
-use Rattle.table_rules.specs.Rules.{AreConstraints}
-use Rattle.table_rules.specs.Types.{class_in}
+use Rattle.table_names.specs.Named.{AreConstraints}
 use Rattle.statement_steps.specs.Steps.{MakesEdit, Nothing, Steps, refusals_of, where_it_is}
 use Rattle.domain_edits.specs.Checks.{HasNoType, IsCheckMade, NeededByChecks, parts_of, unresolved_checks}
 
@@ -33,10 +31,6 @@ domain_exists c domain = where_it_is (Has c (IsDomain (path_of domain))) (NameEx
 -- names that are given to checks and taken
 abbrev pub taken_checks : List Item → NameBytes → List WrittenCheck → List (Refusal → Type 0)
 taken_checks c schema checks = map (exists_in c schema) (given_names (parts_of checks))
-
--- a default of another class than the type
-abbrev pub IsMisfit : Option Default → SqlType → Type 0
-IsMisfit default sort = (class : Class) × (class_in default ≡ Some class) × (class ≢ class_of sort)
 
 abbrev pub IsDomainMade : List Item → Who → Domain → List NamedConstraint → Item → Type 0
 IsDomainMade c who d named (item.Domain x) = x ≡ d

@@ -7,7 +7,7 @@ ghost use Rattle.edit_rules.specs.First.{IsTested};
 ghost use Rattle.edit_laws.specs.Sound.{IsSound};
 ghost use Rattle.statement_forms.specs.Written.{IsWritten};
 ghost use Rattle.statement_steps.specs.Steps.{refusals_of};
-ghost use Rattle.table_keys.specs.Keys.{beside};
+ghost use Rattle.table_work.specs.Keys.{beside};
 ghost use Rattle.domain_edits.specs.AlteredDomains as spec;
 
 use crate::added_check::AddedCheck;

@@ -13,7 +13,7 @@ ghost use Rattle.domain_edits.specs.Found as found;
 ghost use Rattle.domain_edits.specs.Made.{made_of};
 
 use crate::checks::{all_found, has_none, needs_of, parts_of, put_checks};
-use crate::defaults::{copy_default, is_misfit};
+use crate::defaults::copy_default;
 use crate::names::test_new_domain;
 use crate::new_domain::NewDomain;
 use cat_items::{Catalogue, Domain, Edit, EditError, Item, Need, Refusal, Shared, Who};
@@ -22,6 +22,7 @@ use sql_tree::{CreateDomain, Items, Name};
 use statement_steps::{Making, edit_of};
 use std::alloc::{AllocError, Global};
 use table_names::{given_names, name_constraints, test_new_constraints, test_repeated};
+use table_parts::is_misfit;
 use view_deps::ResolvedExpr;
 
 /// What the conditions of its checks came to, and what they need.
@@ -92,7 +93,7 @@ impl<'a> Making for NewDomain<'a> {
     ) -> Result<FoundChecks, EditError> {
         let _ = c;
         let _ = who;
-        if is_misfit(self.default, self.sort) {
+        if is_misfit(self.default.as_ref(), self.sort) {
             return Err(EditError::Refused(Refusal::TypeMismatch));
         }
         if has_none(&named) {

@@ -1,29 +1,15 @@
 //! Defaults of domains: SET DEFAULT and DROP DEFAULT.
 
-ghost use Rattle.std.specs.Prelude.{◌≡◌, ◌↔◌, ◌∷◌, [], IfOk, IsTrue, Some};
+ghost use Rattle.std.specs.Prelude.{◌≡◌, ◌∷◌, [], IfOk, Some};
 ghost use Rattle.cat_items.specs.declared.item.Item.TheVariants as item;
 ghost use Rattle.domain_edits.specs.AlteredDomains as altered;
-ghost use Rattle.domain_edits.specs.CreatedDomains as created;
 
 use crate::names::domain_of;
 use cat_items::{Catalogue, Domain, Edit, EditError, Item, Need, Refusal, Shared, Who};
-use sql_tree::{Default, Items, Name, Object, SqlType};
+use sql_tree::{Default, Items, Name, Object};
 use statement_steps::Making;
 use std::alloc::{AllocError, Global};
-use table_parts::{class_of, default_class};
-
-/// Whether a default is of another class than a type.
-pub fn is_misfit(default: &Option<Default>, sort: SqlType) -> bool
-    ensures { IsTrue result ↔ created.IsMisfit default.now sort }
-{
-    match default {
-        None => false,
-        Some(default) => match default_class(default) {
-            None => false,
-            Some(class) => class_of(sort) != class,
-        },
-    }
-}
+use table_parts::is_misfit;
 
 pub fn copy_default(default: &Option<Default>) -> Result<Option<Default>, AllocError>
     ensures { IfOk result (λ copy. copy ≡ default.now) }
@@ -110,7 +96,7 @@ impl Making for NewDefault {
         _who: &Who,
         named: Domain,
     ) -> Result<OldDomain, EditError> {
-        if is_misfit(&self.default, named.sort) {
+        if is_misfit(self.default.as_ref(), named.sort) {
             return Err(EditError::Refused(Refusal::TypeMismatch));
         }
         Ok(OldDomain {

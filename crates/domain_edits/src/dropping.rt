@@ -5,12 +5,12 @@ ghost use Rattle.edit_rules.specs.Chosen.{AreChosen};
 ghost use Rattle.edit_rules.specs.First.{IsTested};
 ghost use Rattle.domain_edits.specs.AlteredDomains as spec;
 
-use crate::names::test_domain;
 use cat_items::{Catalogue, Edit, EditError, Item, Need, Refusal, Who};
 use edit_rules::{Chooses, chosen, path_of};
 use sql_tree::{Items, Name, Object};
 use statement_steps::Making;
 use std::alloc::{AllocError, Global};
+use table_elements::test_domain;
 
 /// A check of the domain of this name, and the check's name.
 #[derive(Drop)]

@@ -1,23 +1,18 @@
 //! Names of domains.
 
-ghost use Rattle.std.specs.Prelude.{◌≡◌, ◌↔◌, ◌∷◌, [], IfNone, IfSome, IsTrue, Some};
+ghost use Rattle.std.specs.Prelude.{◌≡◌, ◌∷◌, [], IfNone, IfSome, Some};
 ghost use Rattle.cat_items.specs.Good.{IsGood};
 ghost use Rattle.cat_items.specs.Reach.{Has};
 ghost use Rattle.cat_items.specs.Rights as rights;
 ghost use Rattle.edit_rules.specs.First.{HasPassed, IsTested};
+ghost use Rattle.table_elements.specs.Names.{unknown_domain};
 ghost use Rattle.domain_edits.specs.AlteredDomains as altered;
 ghost use Rattle.domain_edits.specs.CreatedDomains as created;
 
 use cat_items::{Catalogue, Domain, EditError, Item, Part, Refusal, places};
 use edit_rules::path_of;
 use sql_tree::Object;
-
-/// Whether a domain has this name.
-pub fn is_domain(c: &Catalogue, domain: &Object) -> bool
-    ensures { IsTrue result ↔ Has c.now.items (rights.IsDomain (rights.path_of domain.now)) }
-{
-    !places(c, Part::Domain(domain.into())).is_empty()
-}
+use table_elements::is_domain;
 
 /// Refuses a name that a domain has.
 pub fn test_new_domain(c: &Catalogue, domain: &Object) -> Result<(), EditError>
@@ -28,17 +23,6 @@ pub fn test_new_domain(c: &Catalogue, domain: &Object) -> Result<(), EditError>
     }
     let path = path_of(domain)?;
     Err(EditError::Refused(Refusal::NameExists { path }))
-}
-
-/// Refuses a name that no domain has.
-pub fn test_domain(c: &Catalogue, domain: &Object) -> Result<(), EditError>
-    ensures { HasPassed (altered.unknown_domain c.now.items domain.now ∷ []) result }
-{
-    if is_domain(c, domain) {
-        return Ok(());
-    }
-    let path = path_of(domain)?;
-    Err(EditError::Refused(Refusal::UnknownName { path }))
 }
 
 /// The domain of this name.
@@ -60,7 +44,7 @@ fn find_domain<'a>(c: &'a Catalogue, domain: &Object) -> Option<&'a Domain>
 /// A copy of the domain of this name. Refuses a name that no domain has.
 pub fn domain_of(c: &Catalogue, domain: &Object) -> Result<Domain, EditError>
     requires { IsGood c.now.items }
-    ensures { IsTested (altered.unknown_domain c.now.items domain.now ∷ []) (λ d. altered.domain_in c.now.items domain.now ≡ Some d) result }
+    ensures { IsTested (unknown_domain c.now.items domain.now ∷ []) (λ d. altered.domain_in c.now.items domain.now ≡ Some d) result }
 {
     match find_domain(c, domain) {
         Some(found) => Ok(found.copy()?),

@@ -6,5 +6,6 @@ mod objects;
 mod roles;
 
 pub use drops::edit_drop;
+pub use new_catalogues::further;
 pub use objects::{belongings, drop_object, test_dropped};
 pub use roles::drop_role;

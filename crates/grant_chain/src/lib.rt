@@ -9,3 +9,5 @@ mod system;
 pub use role_graph::{Needs, met, met_by};
 pub use rounds::survivors;
 pub use support::supported;
+pub use support_laws::new_catalogues_are_good;
+pub use system_rights::system_items;

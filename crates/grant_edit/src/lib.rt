@@ -9,4 +9,5 @@ mod statements;
 mod targets;
 
 pub use grants::Granting;
+pub use role_edit::edit_role;
 pub use statements::{edit_grant, edit_revoke, grant, revoke};

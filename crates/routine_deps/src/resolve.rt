@@ -67,7 +67,7 @@ pub fn resolve_body(
 ) -> Result<ResolvedBody, ResolveError>
     ensures { IsResolvedBody scope.now.itself (spec.resolved_body (known_of c.now.items) scope.now body.now) result }
 {
-    let body = resolve_typed_body(alloc, &CatalogueNames { catalogue: c }, scope, body)?;
+    let body = resolve_typed_body(alloc, &CatalogueNames::new(alloc, c), scope, body)?;
     let needs = needs_in(alloc, &body, &scope.itself)?;
     Ok(ResolvedBody { body, needs })
 }

@@ -3,9 +3,7 @@ pub mod CallLaws
 pub mod Complete
 pub mod Crossing
 pub mod Ending
-pub mod Paths
 pub mod Pieces
-pub mod Quoted
 pub mod Returning
 pub mod RunLaws
 pub mod Taking

@@ -1,5 +1,5 @@
 -- What is written for a reply.
-use Rattle.std.specs.Prelude.{true, false, ◌==◌, if◌then◌else◌, ℕ, List, [], ◌∷◌, ◌++◌, codes, decimal, flat_map, length, Option, Some, None}
+use Rattle.std.specs.Prelude.{true, false, ℕ, List, [], ◌∷◌, ◌++◌, codes, decimal, flat_map, length}
 use Rattle.printed_rows.specs.RowTexts.{rows_text}
 use Rattle.sql_spelling.specs.Texts.{name_text}
 use Rattle.cat_items.specs.ItemTexts.{path_text, need_text, item_text}
@@ -9,15 +9,6 @@ use Rattle.cat_engine.specs.declared.reply.Reply.{Reply}
 use Rattle.cat_engine.specs.declared.reply.Reply.TheVariants.{Ok, Warn, Rows, Refused, JournalFull, OutOfMemory}
 use Rattle.catalogue_edits.specs.declared.warning.Warning.{Warning}
 use Rattle.catalogue_edits.specs.declared.warning.Warning.TheVariants.{NotRevoked, NotGranted}
-
--- a double quote is doubled inside double quotes
-abbrev pub doubled : ℕ → List ℕ
-doubled c = if c == 34 then 34 ∷ 34 ∷ [] else c ∷ []
-
--- the first name of a path
-abbrev pub first_text : Option (List ℕ) → List ℕ
-first_text None = []
-first_text (Some name) = name_text name
 
 -- the number and the SQLSTATE, and a space where something is carried
 abbrev pub code_text : Refusal → List ℕ

@@ -3,9 +3,7 @@
 #![tactic(auto)]
 
 mod answerer;
-mod items;
 mod listening;
-mod names;
 mod print;
 mod script;
 mod server;

@@ -1,5 +1,6 @@
 ghost use Rattle.std.specs.Prelude.{◌≡◌, ◌≤◌, ◌<◌, ◌+◌, ◌^◌, ◌∷◌, [], length, None, take, OnOk, OnErr, IfOk, IfErr};
 ghost use Rattle.cat_engine.specs.Runs.{missed};
+ghost use Rattle.cat_items.specs.Good.{IsGood};
 ghost use Rattle.sql_words.specs.Stream.{rest_from};
 ghost use Rattle.sessions.specs.Calls.{IsApplied};
 ghost use Rattle.sessions.specs.Runs as runs;
@@ -212,6 +213,9 @@ pub fn run_script<S: Source, W: Sink>(
     ensures sink_later { W.faults sink.old ≤ W.faults sink.new }
     ensures source_beside { S.beside source.new ≡ S.beside source.old }
     ensures sink_beside { W.beside sink.new ≡ W.beside sink.old }
+    ensures good { IsGood book.new.content.catalogue }
 {
-    run_stream(book, splitter, source, sink, limits)
+    let ran = run_stream(book, splitter, source, sink, limits);
+    let _good = book.catalogue();
+    ran
 }

@@ -36,16 +36,12 @@ fn continues(byte: u8) -> bool
 fn all_continue(bytes: &[u8]) -> bool
     ensures { result ≡ list_all spec.continues bytes.now }
 {
-    for &byte in bytes {
-        if !continues(byte) {
-            return false;
-        }
-    }
-    true
+    bytes.iter().all(|byte| continues(*byte))
 }
 
+/// Whether a name stands without quotes: a regular identifier in upper case that isn't reserved (SQL:2003 part 2, 5.2).
 #[tactic(auto, unfolding(crate::specs::Texts::is_bare))]
-fn is_bare(bytes: &[u8]) -> bool
+pub fn is_bare(bytes: &[u8]) -> bool
     ensures { result ≡ spec.is_bare bytes.now }
 {
     match bytes {

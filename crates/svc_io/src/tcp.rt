@@ -91,15 +91,6 @@ impl<'a, R: Net> TcpDoor<'a, R> {
             faults: 0,
         }
     }
-
-    /// The port at which it listens: the one that `begin` was given, or one that the system chose
-    /// where that was 0. None before `begin`, or where the system doesn't tell it.
-    pub fn port(&self) -> Option<u16>
-        ensures { IsSome result → IsSome (listener_of self.now) }
-    {
-        let address = self.listener.as_ref()?.local_addr().ok()?;
-        Some(address.port())
-    }
 }
 
 impl<R: Net> Listener for TcpDoor<'_, R>

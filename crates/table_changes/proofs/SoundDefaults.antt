@@ -25,7 +25,8 @@ use Rattle.edit_laws.proofs.PutBackLaws.{put_back_name, put_back_item, put_back_
 use Rattle.edit_rules.specs.Chosen.{AreAll}
 use Rattle.statement_steps.specs.Steps.{Nothing}
 use Rattle.statement_steps.proofs.Additions.{nothing_chosen}
-use Rattle.table_changes.specs.Defaults.{IsMisfit, IsMisfitColumn, IsStanding, IsWithDefault, MakesDefault}
+use Rattle.table_parts.specs.Classes.{IsMisfit}
+use Rattle.table_changes.specs.Defaults.{IsMisfitColumn, IsStanding, IsWithDefault, MakesDefault}
 use Rattle.table_changes.proofs.Taking.{base_of}
 
 -- columns of one table and name are one

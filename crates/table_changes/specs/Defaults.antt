@@ -1,10 +1,9 @@
 -- SET DEFAULT and DROP DEFAULT of a column: their refusals in order, and what they put in its place (SQL:2003 part 2, 11.12 to 11.14).
-use Rattle.std.specs.Prelude.{◌≡◌, ◌≢◌, List, [], ◌∷◌, Option, None, Some}
+use Rattle.std.specs.Prelude.{◌≡◌, List, [], ◌∷◌, Option}
 use Rattle.std.specs.List.{Contains}
 use Rattle.sql_names.specs.NameBytes.{NameBytes}
 use Rattle.sql_names.specs.declared.object.Object.{Object}
 use Rattle.sql_names.specs.declared.sort.Default.{Default}
-use Rattle.sql_names.specs.declared.sort.SqlType.{SqlType}
 use Rattle.cat_items.specs.declared.edit.Edit.{Edit}
 use Rattle.cat_items.specs.declared.edit.Refusal.TheVariants.{TypeMismatch}
 use Rattle.cat_items.specs.declared.item.Column.{Column}
@@ -13,14 +12,8 @@ use Rattle.cat_items.specs.declared.item.Item.TheVariants as item
 use Rattle.cat_items.specs.Reach.{Has}
 use Rattle.cat_items.specs.Rights.{path_of, IsColumn}
 use Rattle.edit_rules.specs.Names.{unknown_base_table, unknown_column}
-use Rattle.table_parts.specs.declared.classes.Class.{Class}
-use Rattle.table_parts.specs.Classes.{class_of, default_class}
+use Rattle.table_parts.specs.Classes.{IsMisfit}
 use Rattle.statement_steps.specs.Steps.{MakesEdit, Nothing, Steps, where_it_is}
-
--- a default of another class than the type
-abbrev pub IsMisfit : Option Default → SqlType → Type 0
-IsMisfit None sort = ⊥
-IsMisfit (Some default) sort = (class : Class) × (default_class default ≡ Some class) × (class ≢ class_of sort)
 
 -- the column of this name, whose type the default doesn't fit
 abbrev pub IsMisfitColumn : Object → NameBytes → Option Default → Item → Type 0

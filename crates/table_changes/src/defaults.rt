@@ -1,6 +1,6 @@
 //! SET DEFAULT and DROP DEFAULT of a column.
 
-ghost use Rattle.std.specs.Prelude.{◌≡◌, ◌↔◌, ◌∷◌, [], IfNone, IfOk, IfSome, IsTrue, None, Some};
+ghost use Rattle.std.specs.Prelude.{◌≡◌, ◌∷◌, [], IfNone, IfOk, IfSome, None, Some};
 ghost use Rattle.cat_items.specs.declared.item.Item.TheVariants as item;
 ghost use Rattle.cat_items.specs.Good.{IsGood};
 ghost use Rattle.cat_items.specs.Pieces.{AreResolved, default_pieces};
@@ -15,23 +15,10 @@ ghost use Rattle.table_changes.specs.Defaults as spec;
 use crate::searches::only;
 use cat_items::{Catalogue, Column, Edit, EditError, Item, Need, Refusal, Shared, Who};
 use edit_rules::{object_in, test_base_table};
-use sql_tree::{Default, Items, Name, Object, ObjectName, Path, SqlType};
+use sql_tree::{Default, Items, Name, Object, ObjectName, Path};
 use statement_steps::{Making, edit_of};
 use std::alloc::{AllocError, Global};
-use table_parts::{class_of, default_class};
-
-/// Whether a default is of another class than a type.
-fn is_misfit(default: &Option<Default>, sort: SqlType) -> bool
-    ensures { IsTrue result ↔ spec.IsMisfit default.now sort }
-{
-    match default {
-        None => false,
-        Some(default) => match default_class(default) {
-            None => false,
-            Some(class) => class_of(sort) != class,
-        },
-    }
-}
+use table_parts::is_misfit;
 
 /// The column that an item is, where it has this name.
 fn as_column<'a>(x: &'a Item, table: &Object, name: &Name) -> Option<&'a Column>
@@ -143,7 +130,7 @@ impl<'a> Making for NewDefault<'a> {
         _who: &Who,
         named: Column,
     ) -> Result<OldColumn, EditError> {
-        if is_misfit(&self.default, named.sort) {
+        if is_misfit(self.default.as_ref(), named.sort) {
             return Err(EditError::Refused(Refusal::TypeMismatch));
         }
         Ok(OldColumn {

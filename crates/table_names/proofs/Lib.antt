@@ -1,3 +1,5 @@
 pub mod NamedLemmas
+pub mod NamesSettled
+pub mod OwnNames
 pub mod PassedLemmas
 pub mod RepeatLemmas

@@ -8,7 +8,7 @@ use Rattle.cat_items.specs.declared.edit.EditError.{EditError}
 use Rattle.cat_items.specs.declared.edit.EditError.TheVariants.{Refused, Memory}
 use Rattle.cat_items.specs.declared.edit.Refusal.{Refusal}
 use Rattle.cat_items.specs.declared.item.Item.{Item}
-use Rattle.edit_rules.specs.First.{First, HasPassed, Passes}
+use Rattle.edit_rules.specs.First.{First, HasPassed, IsTested, Passes}
 use Rattle.edit_rules.specs.Names.{unknown_base_table}
 use Rattle.edit_rules.proofs.FirstLaws.{first_left, first_right, passes_both}
 use Rattle.table_names.specs.Given.{unknown_referenced_table}
@@ -50,8 +50,12 @@ pub refused_before : (T U : Type 0) (tests others : List (Refusal → Type 0)) (
     → HasPassed {T = T} tests (Err error) → HasPassed {T = U} (tests ++ others) result
 refused_before T U tests others error result is h = refused_as T U tests (tests ++ others) error result is (λ refusal f. first_left tests others refusal f) h
 
--- a refusal by tests between others
-pub refused_between : (T U : Type 0) (front tests others : List (Refusal → Type 0)) (error : EditError) (result : Result U EditError) → IsErrAnd result (λ e. e ≡ error)
-    → Passes (First front) → HasPassed {T = T} tests (Err error) → HasPassed {T = U} (front ++ (tests ++ others)) result
-refused_between T U front tests others error result is passed h =
-    refused_as T U tests (front ++ (tests ++ others)) error result is (λ refusal f. first_right front (tests ++ others) refusal passed (first_left tests others refusal f)) h
+-- an error tells of the tests alone
+pub error_passes : {T : Type 0} (tests : List (Refusal → Type 0)) (Done : T → Type 0) (e : EditError) → IsTested tests Done (Err e) → HasPassed {T = T} tests (Err e)
+error_passes tests Done (Refused r) h = h
+error_passes tests Done Memory h = h
+
+pub exit_tested : {U : Type 0} (tests : List (Refusal → Type 0)) (Done : U → Type 0) (e : EditError) (exit : Result U EditError) → IsErrAnd exit (λ x. x ≡ e) → HasPassed {T = U} tests exit → IsTested tests Done exit
+exit_tested tests Done e (Ok v) is h = absurd is
+exit_tested tests Done e (Err (Refused r)) is h = h
+exit_tested tests Done e (Err Memory) is h = h

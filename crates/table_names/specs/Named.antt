@@ -3,12 +3,16 @@ use Rattle.std.specs.Prelude.{◌≡◌, ◌≢◌, ◌<◌, ℕ, List, [], ◌�
 use Rattle.std.specs.Fmt.{decimal}
 use Rattle.std.specs.List.{AllPairs, Any, Contains}
 use Rattle.sql_names.specs.NameBytes.{NameBytes}
+use Rattle.sql_names.specs.declared.object.Object.{Object}
 use Rattle.sql_tree.specs.declared.table.TableConstraint.{TableConstraint}
+use Rattle.cat_items.specs.declared.edit.Refusal.{Refusal}
 use Rattle.cat_items.specs.declared.item.Item.{Item}
 use Rattle.cat_items.specs.Reach.{Has}
 use Rattle.edit_rules.specs.Names.{IsConstraint}
 use Rattle.table_parts.specs.declared.parts.Part.{Part}
 use Rattle.table_parts.specs.declared.parts.Part.TheVariants as parts
+use Rattle.table_parts.specs.Parts.{constraints_of}
+use Rattle.table_names.specs.Given.{given_names}
 use Rattle.table_names.specs.declared.named.NamedConstraint.{NamedConstraint}
 
 -- SYS_C1, SYS_C2 and so on
@@ -53,3 +57,10 @@ AddsNamed Free (parts.Constraint k) old new = (n : NamedConstraint) × (new ≡ 
 -- no two have one name
 abbrev pub HaveOwnNames : List NamedConstraint → Type 0
 HaveOwnNames named = AllPairs (λ (a b : NamedConstraint). a.name ≢ b.name) named
+
+-- the constraints of a statement with their names
+abbrev pub AreConstraints : List Item → Object → List Part → List NamedConstraint → Type 0
+AreConstraints c made all named = AreNamed (IsFree c made.schema (given_names all)) [] (constraints_of all) named
+
+abbrev pub for_constraints : List Item → Object → List Part → (List NamedConstraint → Refusal → Type 0) → Refusal → Type 0
+for_constraints c made all test refusal = (named : List NamedConstraint) × AreConstraints c made all named × test named refusal

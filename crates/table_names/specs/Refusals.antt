@@ -1,19 +1,17 @@
--- Refusals of CREATE TABLE by names and owners, in their order.
-use Rattle.std.specs.Prelude.{◌≡◌, List, [], ◌∷◌, ◌++◌, map}
+-- Refusals of CREATE TABLE by names that come twice or are taken.
+use Rattle.std.specs.Prelude.{◌≡◌, List, [], ◌∷◌, map}
 use Rattle.sql_names.specs.NameBytes.{NameBytes, PathNames}
 use Rattle.sql_names.specs.declared.object.Object.{Object}
 use Rattle.cat_items.specs.declared.edit.Refusal.{Refusal}
 use Rattle.cat_items.specs.declared.edit.Refusal.TheVariants.{Repeated}
-use Rattle.cat_items.specs.declared.edit.Who.{Who}
 use Rattle.cat_items.specs.declared.item.Item.{Item}
 use Rattle.cat_items.specs.Rights.{path_of}
 use Rattle.edit_rules.specs.Names.{constraint_exists, table_exists}
-use Rattle.edit_rules.specs.Owners.{not_owner}
 use Rattle.table_parts.specs.declared.marks.Mark.{Mark}
 use Rattle.table_parts.specs.declared.marks.Mark.TheVariants as marks
 use Rattle.table_parts.specs.declared.parts.Part.{Part}
 use Rattle.table_parts.specs.Marks.{IsRepeated, marks_in}
-use Rattle.table_names.specs.Given.{given_names, unknown_names_of_parts}
+use Rattle.table_names.specs.Given.{given_names}
 
 -- what is told of something that comes twice: its name, and of a second PRIMARY KEY the table
 abbrev pub told : Object → Mark → PathNames
@@ -33,6 +31,3 @@ exists_in c schema name = constraint_exists c (record { schema = schema; name = 
 -- taken names: the table, and then its constraints
 abbrev pub taken_names : List Item → Object → List Part → List (Refusal → Type 0)
 taken_names c made parts = table_exists c made ∷ map (exists_in c made.schema) (given_names parts)
-
-abbrev pub table_name_refusals : List Item → Who → Object → List Part → List (Refusal → Type 0)
-table_name_refusals c who made parts = repeated_name made parts ∷ unknown_names_of_parts c who made parts ++ (not_owner c who made.schema ∷ taken_names c made parts)

@@ -5,6 +5,6 @@ mod given;
 mod named;
 mod refusals;
 
-pub use given::is_known_column;
+pub use given::test_target;
 pub use named::{NamedConstraint, given_names, name_constraints};
-pub use refusals::{test_names, test_new_constraints, test_repeated};
+pub use refusals::{test_new_constraints, test_repeated};

@@ -1,15 +1,12 @@
-//! Refusals by names and owners.
+//! Refusals by names that come twice or are taken.
 
 ghost use Rattle.std.specs.Prelude.{◌≡◌, ◌∷◌, [], IfOk, OnOk, map};
 ghost use Rattle.edit_rules.specs.First.{HasPassed};
 ghost use Rattle.table_parts.specs.Marks.{MarksDiffer, marks_in};
-ghost use Rattle.table_names.specs.Given.{given_names};
 ghost use Rattle.table_names.specs.Refusals as spec;
 
-use crate::given::test_known;
-use crate::named;
-use cat_items::{Catalogue, EditError, Refusal, Who};
-use edit_rules::{path_of, test_new_constraint, test_new_table, test_owner};
+use cat_items::{Catalogue, EditError, Refusal};
+use edit_rules::{path_of, test_new_constraint};
 use sql_tree::{Items, Name, Object, Path};
 use std::alloc::{AllocError, Global};
 use table_parts::{Mark, Part, first_repeated, marks_of};
@@ -65,36 +62,4 @@ pub fn test_new_constraints(
         test_constraint(c, schema, name)?;
     }
     Ok(())
-}
-
-/// Refuses names that are taken: the table's, and then those given to its constraints.
-fn test_taken(
-    alloc: Global,
-    c: &Catalogue,
-    made: &Object,
-    parts: &Items<Part>,
-) -> Result<(), EditError>
-    ensures { HasPassed (spec.taken_names c.now.items made.now parts.now) result }
-{
-    test_new_table(c, made)?;
-    let names = named::given_names(alloc, parts)?;
-    test_new_constraints(c, &made.schema, &names)
-}
-
-/// Refuses CREATE TABLE (SQL:2003 part 2, 11.3) by its names and its schema's owner, in this order: `Repeated` where one comes twice,
-/// `UnknownName` where one doesn't stand, `NotOwner`, and `NameExists` where one is taken. `Memory` is want of memory.
-pub fn test_names(
-    alloc: Global,
-    c: &Catalogue,
-    who: &Who,
-    made: &Object,
-    parts: &Items<Part>,
-) -> Result<(), EditError>
-    ensures tested { HasPassed (spec.table_name_refusals c.now.items who.now made.now parts.now) result }
-    ensures differ { OnOk result (MarksDiffer (marks_in parts.now)) }
-{
-    test_repeated(alloc, made, parts)?;
-    test_known(c, who, made, parts)?;
-    test_owner(alloc, c, who, &made.schema)?;
-    test_taken(alloc, c, made, parts)
 }

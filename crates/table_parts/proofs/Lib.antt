@@ -1,4 +1,5 @@
 pub mod Differing
+pub mod ListMembers
 pub mod MarkLemmas
 pub mod Pairs
 pub mod Repeats

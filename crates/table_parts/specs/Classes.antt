@@ -1,5 +1,5 @@
 -- Classes of types: values of one class can be compared and assigned.
-use Rattle.std.specs.Prelude.{Option, None, Some}
+use Rattle.std.specs.Prelude.{◌≡◌, ◌≢◌, Option, None, Some}
 use Rattle.sql_names.specs.declared.sort.SqlType.{SqlType}
 use Rattle.sql_names.specs.declared.sort.SqlType.TheVariants as sorts
 use Rattle.sql_names.specs.declared.sort.Default.{Default}
@@ -36,3 +36,11 @@ default_class defaults.True = Some Boolean
 default_class defaults.False = Some Boolean
 default_class defaults.Null = None
 default_class (defaults.Special special) = Some (special_class special)
+
+abbrev pub class_in : Option Default → Option Class
+class_in None = None
+class_in (Some default) = default_class default
+
+-- a default of another class than this type
+abbrev pub IsMisfit : Option Default → SqlType → Type 0
+IsMisfit default sort = (class : Class) × (class_in default ≡ Some class) × (class ≢ class_of sort)

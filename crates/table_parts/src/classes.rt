@@ -1,6 +1,7 @@
 //! Classes of types (comparability and assignability of data types, SQL:2003 part 2, 4.1).
 
-ghost use Rattle.std.specs.Prelude.{◌≡◌};
+ghost use Rattle.std.specs.Prelude.{◌≡◌, ◌↔◌, IsTrue};
+ghost use Rattle.std.specs.Option.{option_copied};
 ghost use Rattle.table_parts.specs.Classes as spec;
 
 use sql_tree::{Default, Special, SqlType};
@@ -53,5 +54,18 @@ fn special_class(special: Special) -> Class
         Special::CurrentDate => Class::Date,
         Special::CurrentTime => Class::Time,
         Special::CurrentTimestamp => Class::Timestamp,
+    }
+}
+
+/// Whether a default has another class than a type (SQL:2003 part 2, 11.5). It takes no memory.
+pub fn is_misfit(default: Option<&Default>, sort: SqlType) -> bool
+    ensures { IsTrue result ↔ spec.IsMisfit (option_copied default.entry) sort }
+{
+    match default {
+        None => false,
+        Some(default) => match default_class(default) {
+            None => false,
+            Some(class) => class != class_of(sort),
+        },
     }
 }

@@ -1,11 +1,9 @@
 -- Types of columns, of their defaults, and of the columns of foreign keys.
-use Rattle.std.specs.Prelude.{◌≡◌, ◌≢◌, ◌<◌, ◌+◌, ℕ, List, [], ◌∷◌, Option, None, Some, length, slice_get}
+use Rattle.std.specs.Prelude.{◌≡◌, ◌≢◌, ◌<◌, ◌+◌, ℕ, List, [], ◌∷◌, Some, length, slice_get}
 use Rattle.std.specs.List.{Any}
 use Rattle.sql_names.specs.NameBytes.{NameBytes}
 use Rattle.sql_names.specs.declared.object.Object.{Object}
-use Rattle.sql_names.specs.declared.sort.Default.{Default}
 use Rattle.sql_names.specs.declared.sort.Param.{Param}
-use Rattle.sql_names.specs.declared.sort.SqlType.{SqlType}
 use Rattle.sql_tree.specs.declared.table.References.{References}
 use Rattle.cat_items.specs.declared.edit.Refusal.{Refusal}
 use Rattle.cat_items.specs.declared.edit.Refusal.TheVariants.{CatalogFull}
@@ -15,7 +13,7 @@ use Rattle.cat_items.specs.declared.item.Key.{Key}
 use Rattle.table_parts.specs.declared.classes.Class.{Class}
 use Rattle.table_parts.specs.declared.parts.Part.{Part}
 use Rattle.table_parts.specs.declared.parts.Part.TheVariants as parts
-use Rattle.table_parts.specs.Classes.{class_of, default_class}
+use Rattle.table_parts.specs.Classes.{class_of, IsMisfit}
 use Rattle.table_parts.specs.Columns.{default_in}
 use Rattle.table_parts.specs.Parts.{columns_of}
 use Rattle.table_work.specs.declared.work.Work.{Work}
@@ -23,14 +21,6 @@ use Rattle.table_work.specs.Columns.{sort_of}
 use Rattle.table_work.specs.Keys.{IsMeant}
 use Rattle.table_work.specs.Seen.{columns_seen, keys_seen}
 use Rattle.table_names.specs.Given.{target_of}
-
-abbrev pub class_in : Option Default → Option Class
-class_in None = None
-class_in (Some default) = default_class default
-
--- a default of another class than this type
-abbrev pub IsMisfit : Option Default → SqlType → Type 0
-IsMisfit default sort = (class : Class) × (class_in default ≡ Some class) × (class ≢ class_of sort)
 
 -- a column with a default of another class than its type, or that of its domain
 abbrev pub HasMisfit : List Item → Who → Part → Type 0

@@ -2,7 +2,6 @@
 
 ghost use Rattle.std.specs.Prelude.{◌≡◌, ◌↔◌, ◌∷◌, [], length, IfOk, IsTrue};
 ghost use Rattle.std.specs.List.{Any};
-ghost use Rattle.std.specs.Option.{option_copied};
 ghost use Rattle.edit_rules.specs.First.{HasPassed};
 ghost use Rattle.table_parts.specs.Parts.{columns_of};
 ghost use Rattle.table_types.specs.Types as spec;
@@ -10,26 +9,13 @@ ghost use Rattle.table_types.specs.Types as spec;
 use crate::classes::are_misfits;
 use cat_items::{Catalogue, EditError, Refusal, Who};
 use edit_rules::object_in;
-use sql_tree::{Default, Items, Name, References, SqlType};
+use sql_tree::{Items, Name, References};
 use std::alloc::{AllocError, Global};
-use table_parts::{Part, class_of, default_class, default_in};
+use table_parts::{Part, default_in, is_misfit};
 use table_work::{Work, columns_seen, keys_seen, sort_of};
 
 /// The greatest place of a column.
 const PLACES: u64 = 4_294_967_295;
-
-/// Whether a default has another class than a type.
-fn is_misfit(default: Option<&Default>, sort: SqlType) -> bool
-    ensures { IsTrue result ↔ spec.IsMisfit (option_copied default.entry) sort }
-{
-    match default {
-        None => false,
-        Some(default) => match default_class(default) {
-            None => false,
-            Some(class) => class != class_of(sort),
-        },
-    }
-}
 
 /// Whether a part is a column with a default of another class.
 fn has_misfit(c: &Catalogue, who: &Who, part: &Part) -> Result<bool, AllocError>

@@ -1,3 +1,4 @@
 pub mod Described
+pub mod Joined
 pub mod Ranges
 pub mod Sorts

@@ -1,2 +1,3 @@
+pub mod ByName
 pub mod Described
 pub mod Views

@@ -10,15 +10,60 @@ ghost use Rattle.cat_items.specs.declared.item.Column.{Column};
 ghost use Rattle.cat_items.specs.declared.item.Routine.{Routine};
 ghost use Rattle.view_deps.specs.Described as spec;
 
+use crate::by_name::{Wide, wide_among, wide_of};
 use cat_items::{Catalogue, Column, Item, Part, Routine, columns_of, places};
 use name_scopes::{Dictionary, is_name, same_object};
 use sql_tree::{Items, Name, Object, Param, SqlType};
 use std::alloc::{AllocError, Global};
+use std::marker::Model;
 
-/// The names of tables, views, columns and routines that a catalogue has. A look-up is a search of a sorted list.
-#[derive(Clone, Copy)]
+/// The names of tables, views, columns and routines that a catalogue has. Tables, views and routines are searched for in its order; so are the columns
+/// of a wide table or view by their names, where it is one that was given before, while those of the others are gone through.
+#[derive(Drop)]
 pub struct CatalogueNames<'a> {
-    pub catalogue: &'a Catalogue,
+    catalogue: &'a Catalogue,
+    wide: Items<Wide>,
+}
+
+impl<'a> Model for CatalogueNames<'a> {
+    ghost use Rattle.std.specs.Prelude.{All, List};
+    ghost use Rattle.std.specs.Coded.{codes};
+    ghost use Rattle.cat_items.specs.declared.item.Item.{Item};
+    ghost use Rattle.sql_tree.specs.contracts.expr.Expr as expr;
+    ghost use Rattle.sql_tree.specs.contracts.expr.Query as query;
+    ghost use Rattle.view_deps.specs.ByName.{IsWide};
+
+    ghost Value = { List Item };
+
+    ghost coded = { Prim.hlevel (codes, expr.the_row.coded, query.the_row.coded) };
+
+    ghost view = { λ d. d.catalogue.now.items };
+
+    ghost invariant = { λ d. All (IsWide d.catalogue.now.items) d.wide };
+}
+
+impl<'a> CatalogueNames<'a> {
+    /// Those of a catalogue, where no table's columns are looked up by name. It takes no memory.
+    pub fn new(alloc: Global, catalogue: &'a Catalogue) -> CatalogueNames<'a>
+        ensures { result ≡ catalogue.now.items }
+    {
+        CatalogueNames {
+            catalogue,
+            wide: Items::new(alloc),
+        }
+    }
+
+    /// Those of a catalogue, where columns of these tables and views are looked up by name. `Err` is want of memory.
+    pub fn over(
+        alloc: Global,
+        catalogue: &'a Catalogue,
+        found: &[Object],
+    ) -> Result<CatalogueNames<'a>, AllocError>
+        ensures { IfOk result (λ names. names ≡ catalogue.now.items) }
+    {
+        let wide = wide_among(alloc, catalogue, found)?;
+        Ok(CatalogueNames { catalogue, wide })
+    }
 }
 
 fn is_base_table(c: &Catalogue, table: &Object) -> bool
@@ -36,7 +81,7 @@ fn is_view(c: &Catalogue, view: &Object) -> bool
 }
 
 /// The descriptors of the columns of a table or a view.
-fn columns<'a>(c: &'a Catalogue, table: &Object) -> &'a [Item]
+pub fn columns<'a>(c: &'a Catalogue, table: &Object) -> &'a [Item]
     ensures { flat_map (spec.columns_in table.now) c.now.items ≡ flat_map (spec.columns_in table.now) result.now }
 {
     &c.items()[columns_of(c, table)]
@@ -112,7 +157,7 @@ fn find_routine<'a>(name: &Object, items: &'a [Item]) -> Option<&'a Routine>
 impl<'a> Dictionary for CatalogueNames<'a> {
     ghost use Rattle.view_deps.specs.Described.{known_of};
 
-    ghost known = { λ d. known_of d.catalogue.now.items };
+    ghost known = { known_of };
 
     fn is_table(&self, views: bool, table: &Object) -> bool {
         if is_view(self.catalogue, table) {
@@ -131,10 +176,12 @@ impl<'a> Dictionary for CatalogueNames<'a> {
     }
 
     fn sort_of(&self, table: &Object, column: &Name) -> Option<SqlType> {
-        if self.is_table(true, table) {
-            find_sort(table, column, columns(self.catalogue, table))
-        } else {
-            None
+        if !self.is_table(true, table) {
+            return None;
+        }
+        match wide_of(self.wide.as_slice(), table) {
+            Some(wide) => wide.sorts.get(column).copied(),
+            None => find_sort(table, column, columns(self.catalogue, table)),
         }
     }
 

@@ -1,7 +1,9 @@
 //! Queries and expressions that are resolved by a catalogue, with what they need.
 #![tactic(auto)]
 
+mod by_name;
 mod catalogue;
+mod found;
 mod resolve;
 
 pub use catalogue::CatalogueNames;

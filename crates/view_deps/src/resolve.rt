@@ -7,6 +7,7 @@ ghost use Rattle.view_deps.specs.Views as spec;
 ghost use Rattle.view_deps.specs.Views.{IsResolved, IsResolvedExpr};
 
 use crate::catalogue::CatalogueNames;
+use crate::found::{put_in_expr, put_in_query};
 use cat_items::{Catalogue, Need};
 use name_scopes::{ResolveError, Scope};
 use plain_views::plain_base;
@@ -91,7 +92,10 @@ pub fn resolve_query(
     ensures { IsResolved (resolved_query (known_of c.now.items) (spec.query_scope schema.now) query.now) result }
 {
     let scope = query_scope(alloc, schema)?;
-    let typed = resolve_typed_query(alloc, &CatalogueNames { catalogue: c }, &scope, query)?;
+    let mut found = Items::new(alloc);
+    put_in_query(&scope, &mut found, query)?;
+    let by = CatalogueNames::over(alloc, c, found.as_slice())?;
+    let typed = resolve_typed_query(alloc, &by, &scope, query)?;
     let names = column_names(alloc, &typed.query)?;
     let needs = needs_of_query(alloc, &typed.query, Action::Select)?;
     let plain = plain_base(alloc, &typed.query)?;
@@ -116,7 +120,10 @@ pub fn resolve_expr(
 ) -> Result<ResolvedExpr, ResolveError>
     ensures { IsResolvedExpr reading (resolved_expr (known_of c.now.items) scope.now expr.now) result }
 {
-    let typed = resolve_typed_expr(alloc, &CatalogueNames { catalogue: c }, scope, expr)?;
+    let mut found = Items::new(alloc);
+    put_in_expr(scope, &mut found, expr)?;
+    let by = CatalogueNames::over(alloc, c, found.as_slice())?;
+    let typed = resolve_typed_expr(alloc, &by, scope, expr)?;
     let needs = needs_of_expr(alloc, &typed.expr, reading)?;
     Ok(ResolvedExpr {
         expr: typed.expr,

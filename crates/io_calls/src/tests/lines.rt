@@ -159,11 +159,21 @@ fn a_listener_in_memory_gives_its_connections(rt: HostRuntime) -> Result<(), Fai
     Ok(())
 }
 
+/// Begins to listen at the first of some ports that is free.
+fn begin_somewhere<L: Listener>(listener: &mut L) -> Option<u16> {
+    for port in 47_001..47_101 {
+        if listener.begin(port).is_ok() {
+            return Some(port);
+        }
+    }
+    None
+}
+
 #[test]
 fn a_byte_sent_over_loopback_comes_back(rt: HostRuntime) -> Result<(), Fail> {
     let mut door = TcpDoor::new(&rt);
-    assert!(rt; echo_byte(&mut door).is_err() && door.begin(0).is_ok());
-    let port = door.port().ok_or("a port")?;
+    assert!(rt; echo_byte(&mut door).is_err());
+    let port = begin_somewhere(&mut door).ok_or("a port")?;
     assert!(rt; TcpDoor::new(&rt).begin(port).is_err(), "the port is taken");
     let address = SocketAddr::from((Ipv4Addr::LOCALHOST, port));
     let mut client = TcpStream::connect(&rt, address)?;

@@ -3,14 +3,13 @@ use Rattle.sql_tree.specs.declared.statement.Statement.{Statement}
 use Rattle.sql_tree.specs.declared.statement.Statement.TheVariants.{AlterDomain, AlterTable, CreateAssertion, CreateSchema, CreateTable, CreateView, CreateDomain, CreateFunction, CreateProcedure, CreateRole, DropRole, DropSchema, GrantPrivileges, GrantRoles, RevokePrivileges, RevokeRoles}
 use Rattle.edit_rules.specs.First.{IsTested}
 use Rattle.statement_forms.specs.Written.{IsWritten}
-use Rattle.statement_forms.proofs.Forms.{table_forms}
 use Rattle.catalogue_edits.specs.Kinds.{kind_of}
 use Rattle.catalogue_edits.specs.Statements.{IsPlanned}
 use Rattle.catalogue_edits.proofs.Plans.{planned, silently, warns_as}
 use Rattle.catalogue_edits.proofs.plan.plan_of.Goals as goal
 
-pub create_table-requires-clause-forms : goal.create_table-requires-clause-forms
-create_table-requires-clause-forms c = table_forms c.in-CreateTable.parts (subst IsWritten c.in-CreateTable.is c.requires.written)
+pub create_table-requires-clause-written : goal.create_table-requires-clause-written
+create_table-requires-clause-written c = subst IsWritten c.in-CreateTable.is c.requires.written
 
 pub returns-in_ok-create_schema-in-CreateSchema-clause-planned : goal.returns-in_ok-create_schema-in-CreateSchema-clause-planned
 unfolding kind_of
@@ -126,13 +125,13 @@ returns-in_ok-alter_domain-in-AlterDomain-clause-planned c =
     let tested = c.in_ok-alter_domain-in-AlterDomain.ensures.tested in
     silently _ (AlterDomain c.in-AlterDomain.parts) c.args.c.now.items c.args.who.now _ _ c.silent-in-AlterDomain.result c.in-AlterDomain.is c.silent-in-AlterDomain.ensures tested.0 tested.1 refl refl
 
-pub alter_standing-requires-clause-written : goal.alter_standing-requires-clause-written
-alter_standing-requires-clause-written c = subst IsWritten c.in-AlterTable.is c.requires.written
+pub alter_table-requires-clause-written : goal.alter_table-requires-clause-written
+alter_table-requires-clause-written c = subst IsWritten c.in-AlterTable.is c.requires.written
 
-pub returns-in_ok-alter_standing-in-AlterTable-clause-planned : goal.returns-in_ok-alter_standing-in-AlterTable-clause-planned
+pub returns-in_ok-alter_table-in-AlterTable-clause-planned : goal.returns-in_ok-alter_table-in-AlterTable-clause-planned
 unfolding kind_of
-returns-in_ok-alter_standing-in-AlterTable-clause-planned c =
-    let tested = c.in_ok-alter_standing-in-AlterTable.ensures.tested in
+returns-in_ok-alter_table-in-AlterTable-clause-planned c =
+    let tested = c.in_ok-alter_table-in-AlterTable.ensures.tested in
     silently _ (AlterTable c.in-AlterTable.parts) c.args.c.now.items c.args.who.now _ _ c.silent-in-AlterTable.result c.in-AlterTable.is c.silent-in-AlterTable.ensures tested.0 tested.1 refl c.restrict_of-restrict.ensures
 
 pub returns-in_ok-drop_schema-in-DropSchema-clause-planned : goal.returns-in_ok-drop_schema-in-DropSchema-clause-planned

@@ -5,9 +5,9 @@ use Rattle.edit_conditions.specs.Conditions.{IsFound}
 use Rattle.edit_rules.proofs.Lists.{take_next}
 use Rattle.edit_rules.proofs.TestLists.{each_exit_at, each_next}
 use Rattle.statement_steps.specs.Resolving.{unresolved_name}
+use Rattle.table_names.proofs.PassedLemmas.{error_passes, exit_tested}
 use Rattle.domain_edits.specs.Checks.{outcome_of, unresolved_checks}
 use Rattle.domain_edits.specs.Found.{AreFound}
-use Rattle.domain_edits.proofs.DomainLemmas.{error_passes, exit_tested}
 use Rattle.domain_edits.proofs.FoundLemmas.{found_more}
 use Rattle.domain_edits.proofs.checks.all_found.Goals as goal
 

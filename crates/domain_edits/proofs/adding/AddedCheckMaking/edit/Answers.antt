@@ -4,9 +4,8 @@ use Rattle.cat_items.specs.declared.item.Item.TheVariants as item
 use Rattle.cat_items.specs.Catalogues.{IsInOrder}
 use Rattle.finite_chains.proofs.Members.{Contains-nil}
 use Rattle.table_names.specs.Given.{given_names}
-use Rattle.table_names.specs.Named.{IsFree}
+use Rattle.table_names.specs.Named.{AreConstraints, IsFree}
 use Rattle.table_parts.specs.declared.parts.Part.{Part}
-use Rattle.table_rules.specs.Rules.{AreConstraints}
 use Rattle.domain_edits.specs.Checks.{parts_of}
 use Rattle.domain_edits.proofs.ChangedDomains.{adds, as_many, one_name}
 use Rattle.domain_edits.proofs.CheckNames.{named_length}

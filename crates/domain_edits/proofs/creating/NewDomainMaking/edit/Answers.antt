@@ -3,10 +3,9 @@ use Rattle.std.specs.List.{Contains}
 use Rattle.cat_items.specs.declared.item.Item.{Item}
 use Rattle.cat_items.specs.declared.item.Item.TheVariants as item
 use Rattle.table_names.specs.Given.{given_names}
-use Rattle.table_names.specs.Named.{IsFree}
+use Rattle.table_names.specs.Named.{AreConstraints, IsFree}
 use Rattle.domain_edits.specs.Checks.{parts_of}
 use Rattle.table_parts.specs.declared.parts.Part.{Part}
-use Rattle.table_rules.specs.Rules.{AreConstraints}
 use Rattle.cat_items.specs.Catalogues.{IsInOrder}
 use Rattle.cat_items.specs.declared.item.Domain.{Domain}
 use Rattle.domain_edits.specs.Made.{made_of}

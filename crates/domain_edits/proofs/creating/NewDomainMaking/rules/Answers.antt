@@ -5,7 +5,7 @@ use Rattle.domain_edits.proofs.FoundLemmas.{needs_are, none_is}
 use Rattle.domain_edits.proofs.creating.NewDomainMaking.rules.Goals as goal
 
 pub returns-then-is_misfit : goal.returns-then-is_misfit
-returns-then-is_misfit c = (inl (inl (c.is_misfit.ensures.0 c.if-is_misfit.true), refl), tt)
+returns-then-is_misfit c = let told = rw c.as_ref.ensures.value at c.is_misfit.ensures in (inl (inl (told.0 c.if-is_misfit.true), refl), tt)
 
 pub returns-then-has_none : goal.returns-then-has_none
 returns-then-has_none c =
@@ -16,10 +16,11 @@ pub returns : goal.returns
 returns c =
     let d = c.args.self.now in
     let items = c.args.c.now.items in
-    let who = c.args.who.now in (
+    let who = c.args.who.now in
+    let told = rw c.as_ref.ensures.value at c.is_misfit.ensures in (
       λ refusal first. elim first [
         | inl here ↦ elim here.0 [
-          | inl misfit ↦ both_ways _ c.if-is_misfit.false (c.is_misfit.ensures.1 misfit)
+          | inl misfit ↦ both_ways _ c.if-is_misfit.false (told.1 misfit)
           | inr none ↦ both_ways _ c.if-has_none.false (c.has_none.ensures.1 ((none_is items who d.sort d.checks.now c.args.named c.requires.named).1 none))
         ]
         | inr later ↦ absurd later.1

@@ -1,7 +1,8 @@
 use Rattle.std.proofs.Common.{[], ◌∷◌}
 use Rattle.edit_rules.specs.Chosen.{AreChosen}
 use Rattle.edit_rules.proofs.FirstLaws.{tested_by_others}
-use Rattle.domain_edits.specs.AlteredDomains.{IsCheckNamed, unknown_check, unknown_domain}
+use Rattle.table_elements.specs.Names.{unknown_domain}
+use Rattle.domain_edits.specs.AlteredDomains.{IsCheckNamed, unknown_check}
 use Rattle.domain_edits.proofs.dropping.DroppedCheckMaking.names.Goals as goal
 
 pub returns : goal.returns

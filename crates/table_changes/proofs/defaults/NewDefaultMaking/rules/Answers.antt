@@ -12,13 +12,15 @@ pub returns-then-is_misfit : goal.returns-then-is_misfit
 returns-then-is_misfit c =
     let d = c.args.self.now in
     let here = misfit_here c.args._c.now.items c.requires.good d.table d.column.now c.args.named c.requires.named d.default in
-    (inl (here.0 (c.is_misfit.ensures.0 c.if-is_misfit.true), refl), tt)
+    let told = rw c.as_ref.ensures.value at c.is_misfit.ensures in
+    (inl (here.0 (told.0 c.if-is_misfit.true), refl), tt)
 
 pub returns : goal.returns
 returns c =
     let items = c.args._c.now.items in
     let d = c.args.self.now in
-    let here = misfit_here items c.requires.good d.table d.column.now c.args.named c.requires.named d.default in (
-      passes_one (where_it_is (Has items (IsMisfitColumn d.table d.column.now d.default)) TypeMismatch) (λ refusal r. both_ways _ c.if-is_misfit.false (c.is_misfit.ensures.1 (here.1 r.0))),
+    let here = misfit_here items c.requires.good d.table d.column.now c.args.named c.requires.named d.default in
+    let told = rw c.as_ref.ensures.value at c.is_misfit.ensures in (
+      passes_one (where_it_is (Has items (IsMisfitColumn d.table d.column.now d.default)) TypeMismatch) (λ refusal r. both_ways _ c.if-is_misfit.false (told.1 (here.1 r.0))),
       (c.requires.named, c.new.ensures),
     )

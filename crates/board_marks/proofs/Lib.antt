@@ -1,0 +1,2 @@
+pub mod OwnTopics
+pub mod Spreads

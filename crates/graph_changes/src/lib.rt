@@ -1,0 +1,8 @@
+//! Changes of an index: many numbers out, many keys in, many links.
+#![tactic(auto)]
+
+mod laws;
+mod many;
+
+pub use laws::a_change_can_be_undone;
+pub use many::change;

@@ -1,0 +1,4 @@
+pub mod Inserting
+pub mod Linking
+pub mod Numbers
+pub mod Removing

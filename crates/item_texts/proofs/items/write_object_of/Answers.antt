@@ -1,0 +1,9 @@
+use Rattle.svc_io.proofs.Told.{GotFront-before, Puts-after}
+use Rattle.sql_spelling.specs.Texts.{object_text}
+use Rattle.item_texts.proofs.items.write_object_of.Goals as goal
+
+pub returns-in-Err-clause-bytes : goal.returns-in-Err-clause-bytes
+returns-in-Err-clause-bytes g c = (GotFront-before _ _ c.args.word.now (object_text c.args.object.now) c.in-Err.ensures.bytes)
+
+pub returns-clause-bytes : goal.returns-clause-bytes
+returns-clause-bytes g c = (Puts-after _ _ _ c.args.word.now (object_text c.args.object.now) _ c.in_default.ensures.bytes c.write_object.ensures.bytes)

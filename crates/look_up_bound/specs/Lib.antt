@@ -1,0 +1,4 @@
+pub mod LookUps
+pub mod PossibleRights
+pub mod TopicParts
+pub mod Touched

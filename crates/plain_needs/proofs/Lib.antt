@@ -1,0 +1,2 @@
+pub mod BaseNeeds
+pub mod FlatMembers

@@ -1,0 +1,6 @@
+//! What plain views need.
+#![tactic(auto)]
+
+mod laws;
+
+pub use laws::a_plain_view_needs_its_base;

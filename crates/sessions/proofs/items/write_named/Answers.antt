@@ -1,9 +1,0 @@
-use Rattle.svc_io.proofs.Told.{GotFront-before, Puts-after}
-use Rattle.sql_spelling.specs.Texts.{name_text}
-use Rattle.sessions.proofs.items.write_named.Goals as goal
-
-pub returns-in-Err-clause-bytes : goal.returns-in-Err-clause-bytes
-returns-in-Err-clause-bytes g c = (GotFront-before _ _ c.args.word.now (name_text c.args.name.now) c.in-Err.ensures.bytes)
-
-pub returns-clause-bytes : goal.returns-clause-bytes
-returns-clause-bytes g c = (Puts-after _ _ _ c.args.word.now (name_text c.args.name.now) _ c.in_default.ensures.bytes c.write_name.ensures.bytes)

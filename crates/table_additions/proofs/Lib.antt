@@ -1,0 +1,13 @@
+pub mod AddedItems
+pub mod AddedRights
+pub mod Gains
+pub mod MadeRules
+pub mod NamedTests
+pub mod Places
+pub mod PrimaryKeys
+pub mod RangeLists
+pub mod Settled
+pub mod SoundAdditions
+pub mod Standing
+pub mod TestedAdditions
+pub mod WrittenAdditions

@@ -1,0 +1,7 @@
+pub mod ColumnLaws
+pub mod ConstraintLaws
+pub mod FoundPlaces
+pub mod KeysSeen
+pub mod MadeLemmas
+pub mod PutLemmas
+pub mod Settled

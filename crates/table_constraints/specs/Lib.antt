@@ -1,0 +1,4 @@
+pub mod Formed
+pub mod Made
+pub mod OneMade
+pub mod Rules

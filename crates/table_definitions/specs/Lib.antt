@@ -1,4 +1,0 @@
-pub mod Built
-pub mod Lists
-pub mod Made
-pub mod Tables

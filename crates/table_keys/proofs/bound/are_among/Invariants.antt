@@ -1,6 +1,0 @@
-use Rattle.std.proofs.Common.{take}
-use Rattle.std.specs.List.{All, Contains}
-use Rattle.table_keys.proofs.bound.are_among.Given as goal
-
-abbrev pub invariant-loop-name : goal.invariant-loop-name
-invariant-loop-name l = record { among : All (Contains l.others) (take l.name-index l.names) }

@@ -1,6 +1,0 @@
-use Rattle.std.proofs.Common.{◌≡◌, take}
-use Rattle.table_keys.specs.Keys.{own_keys}
-use Rattle.table_keys.proofs.own.own_keys.Given as goal
-
-abbrev pub invariant-loop-constraint : goal.invariant-loop-constraint
-invariant-loop-constraint l = record { own : l.own ≡ own_keys l.made (take l.constraint-index l.named) }

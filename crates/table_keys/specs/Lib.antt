@@ -1,4 +1,0 @@
-pub mod FirstKeys
-pub mod ForeignKeys
-pub mod Keys
-pub mod OneForeign

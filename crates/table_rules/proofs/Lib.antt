@@ -1,4 +1,0 @@
-pub mod ClassLemmas
-pub mod NeedLemmas
-pub mod RuleLemmas
-pub mod Settled

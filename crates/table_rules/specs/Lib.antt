@@ -1,4 +1,0 @@
-pub mod Needs
-pub mod References
-pub mod Rules
-pub mod Types

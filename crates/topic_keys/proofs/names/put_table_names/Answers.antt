@@ -1,0 +1,9 @@
+use Rattle.std.proofs.Common.{◌≡◌}
+use Rattle.std.proofs.lemmas.Result.{on_ok_weaker}
+use Rattle.cascade_laws.specs.Topics as topics
+use Rattle.cascade_laws.specs.Topics.{Topic}
+use Rattle.topic_keys.proofs.Adding.{adds_both}
+use Rattle.topic_keys.proofs.names.put_table_names.Goals as goal
+
+pub returns : goal.returns
+returns c = on_ok_weaker c.put_topic-2.result (adds_both (λ t. t ≡ topics.schema c.args.table.now.schema) (λ t. t ≡ topics.columns c.args.table.now) c.args.keys.now.items c.put_topic.new.keys.items c.put_topic-2.new.keys.items c.in_ok-put_topic.ensures) c.put_topic-2.ensures

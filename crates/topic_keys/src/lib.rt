@@ -1,0 +1,11 @@
+//! Topics as keys of a board: under which an item stands, and on which it depends by name.
+#![tactic(auto)]
+
+mod keys;
+mod names;
+mod objects;
+mod under;
+
+pub use keys::{TopicKey, key_of, put_topic};
+pub use names::{put_far_names, put_names, put_need};
+pub use under::homes;

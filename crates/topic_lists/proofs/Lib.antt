@@ -1,0 +1,4 @@
+pub mod Runs
+pub mod ActorLaws
+pub mod NeedLaws
+pub mod TopicLaws

@@ -1,0 +1,18 @@
+use Rattle.topic_lists.specs.Sought.{IsEdgesTopic}
+use Rattle.topic_keys.specs.Lists.{IsKeyWhere}
+use Rattle.topic_keys.proofs.Adding.{each_begin, each_end, each_more}
+use Rattle.topic_lists.proofs.Runs.{adds_of_any}
+use Rattle.topic_lists.proofs.sought.put_edges.Goals as goal
+
+pub loop-grantee-init : goal.loop-grantee-init
+loop-grantee-init c = record { put = each_begin (λ a. IsKeyWhere (IsEdgesTopic a)) c.args.reached.now c.args.keys.now.items }
+
+pub loop-grantee-preserved : goal.loop-grantee-preserved
+loop-grantee-preserved c = record {
+  put = each_more (λ a. IsKeyWhere (IsEdgesTopic a)) c.args.reached.now c.args.keys.now.items c.loop-grantee.keys.items c.put_edges_to.new.keys.items c.loop-grantee.grantee-index c.grantee-item.result c.loop-grantee-test.true c.grantee-item.is c.loop-grantee.invariant.put c.in_ok-put_edges_to.ensures;
+}
+
+pub returns : goal.returns
+returns c =
+    adds_of_any (IsEdgesTopic) c.args.reached.now c.args.keys.now.items c.loop-grantee.keys.items
+    (each_end (λ a. IsKeyWhere (IsEdgesTopic a)) c.args.reached.now c.args.keys.now.items c.loop-grantee.keys.items c.loop-grantee.grantee-index c.loop-grantee-test.false c.loop-grantee.invariant.put)

@@ -1,0 +1,3 @@
+pub mod Actors
+pub mod Needs
+pub mod Sought

@@ -1,0 +1,12 @@
+//! Topics as lists of keys: of all that an item depends on, and of all that is asked for it.
+#![tactic(auto)]
+
+mod acting;
+mod carried;
+mod each;
+mod lists;
+mod own;
+mod pushing;
+mod sought;
+
+pub use lists::{asked, topics};
