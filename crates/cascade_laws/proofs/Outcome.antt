@@ -7,7 +7,7 @@ use Rattle.std.proofs.lemmas.Bool.{cases_Bool, both_ways}
 use Rattle.std.proofs.lemmas.List.Elements.{Contains-append_left, Contains-append_right, Contains-append_cases}
 use Rattle.finite_chains.specs.Chains.{IsWithin, IsChain, IsMonotone, Survives}
 use Rattle.finite_chains.specs.Changes.{IsRescued}
-use Rattle.finite_chains.proofs.Members.{Contains-nil, Contains-tail, Contains-cases}
+use Rattle.finite_chains.proofs.Members.{Contains-nil, Contains-tail, Contains-cases, All-from_contains}
 use Rattle.sql_names.specs.declared.object.Object.{Object}
 use Rattle.cat_items.specs.declared.item.Item.{Item}
 use Rattle.cat_items.specs.declared.item.Item.TheVariants as item
@@ -26,12 +26,12 @@ use Rattle.finite_chains.specs.Changes.{LawsOfChange}
 use Rattle.cascade_laws.proofs.CloseLocal.{support_goes_by_concerns}
 use Rattle.cascade_laws.proofs.Spread.{spreads_to}
 use Rattle.cascade_laws.proofs.Stable.{supported_among}
-use Rattle.finite_chains.proofs.Cascades.{clear_survives, clear_was, rescued_survivors, local_rounds}
+use Rattle.finite_chains.proofs.Cascades.{clear_survives, clear_was, rescued_survivors}
 use Rattle.cascade_laws.proofs.Kept.{possible_among, stands_alike, known_alike}
 use Rattle.cascade_laws.proofs.TopicsStable.{same_topics}
 use Rattle.cascade_laws.specs.Alike.{AreAlike}
 use Rattle.cat_items.specs.Relevant.{Names}
-use Rattle.finite_chains.proofs.Chains.{IsChain-within}
+use Rattle.finite_chains.proofs.Chains.{IsChain-within, Survives-step}
 use Rattle.cascade_laws.proofs.Gathers.{gathered_all}
 use Rattle.cascade_laws.specs.Topics.{Topic, IsUnder}
 use Rattle.cascade_laws.specs.Asks.{Asks}
@@ -186,7 +186,7 @@ module _ (c all edited f : List Item) (edit : Edit) (suspect : Item → Bool) (s
 
   -- what is asked for by the suspects is in the part; it has the suspects, and of the others only what f has
   module _ (part found standing : List Item) (within : IsWithin part f) (suspects : (x : Item) → Contains f x → suspect x ≡ true → Contains part x)
-      (asked : (x : Item) → Contains part x → suspect x ≡ true → (¬ (Supported f f x)) ⊎ ((y : Item) (t : Topic) → Contains c y → suspect y ≡ false → Asks part x t → IsUnder t y → Contains part y))
+      (asked : (x : Item) → Contains part x → suspect x ≡ true → (¬ (Survives (Supported f) f x)) ⊎ ((y : Item) (t : Topic) → Contains c y → suspect y ≡ false → Asks part x t → IsUnder t y → Contains part y))
       (clear : (x : Item) → Contains part x → suspect x ≡ false → Contains c x → Contains found x) (found_part : IsWithin found part) (sound : (x : Item) → Contains found x → Survives (Supported f) f x)
       (closed : (x : Item) → Contains part x → suspect x ≡ true → Supported part found x → Contains found x)
       (members : (x : Item) → Contains standing x ↔ (Contains found x ⊎ (Contains c x × (suspect x ≡ false)))) where
@@ -216,31 +216,44 @@ module _ (c all edited f : List Item) (edit : Edit) (suspect : Item → Bool) (s
     near_column : (x : Item) → Asked x → (t : Object) → x ≡ item.Table t → (k : Item) → Contains f k → IsColumnOf t k → Contains part k
     near_column x all_asked t e k h is = concerned x all_asked k h (others_count k h (λ right. column_is_no_right t k is right)) (subst (Concerns f k) (sym e) (named (inr is)))
 
-    gathered : (x : Item) → Contains part x → suspect x ≡ true → (¬ (Supported f f x)) ⊎ ((y : Item) → Contains c y → suspect y ≡ false → Concerns f y x → Contains part y)
-    gathered x px sx =
-        elim (asked x px sx) [
-          | inl never ↦ inl never
-          | inr all_asked ↦ inr (λ y cy ny r. concerned x all_asked y (stays y ny cy) (inl cy) r)
-        ]
-
-    nearer : (s : List Item) (x : Item) → IsWithin s f → Contains part x → suspect x ≡ true → Supported f s x → Supported part s x
-    nearer s x hs px sx is =
-        elim (asked x px sx) [
-          | inl never ↦ absurd (never ((supported_monotone f).more s f x hs is))
-          | inr all_asked ↦ supported_among f part s x (near_column x all_asked) is
-        ]
+    nearer : (s : List Item) (x : Item) → Asked x → Supported f s x → Supported part s x
+    nearer s x all_asked is = supported_among f part s x (near_column x all_asked) is
 
     f_local : (s t : List Item) (x : Item) → IsWithin s f → IsWithin t f → Contains f x → ((y : Item) → Contains s y → Concerns f y x → Contains t y) → Supported f s x → Supported f t x
     f_local s t x hs ht hx keep is = support_goes_by_concerns f f s t x (f_derived x hx) (λ y hy. f_derived y (hs y hy)) (λ y hy. hy) hs keep is
 
+    standing_survives : (x : Item) → Contains standing x → Survives (Supported f) f x
+    standing_survives x h =
+        elim ((members x).0 h) [
+          | inl is ↦ sound x is
+          | inr old ↦ clear_survives (Supported all) (Supported f) (Concerns u) suspect all c f change (supported_monotone f) x old.0 old.1
+        ]
+
+    standing_f : IsWithin standing f
+    standing_f x h = elim ((members x).0 h) [ inl is ↦ within x (found_part x is) | inr old ↦ stays x old.1 old.0 ]
+
+    -- what stands of what concerns the item was found
+    stood : (x : Item) → Asked x → Contains f x → (y : Item) → Contains standing y → Concerns f y x → Contains found y
+    stood x all_asked fx y h r =
+        elim ((members y).0 h) [
+          | inl is ↦ is
+          | inr old ↦ clear y (concerned x all_asked y (stays y old.1 old.0) (inl old.0) r) old.1 old.0
+        ]
+
+    rescued : IsRescued (Supported f) suspect c f standing
+    rescued = record {
+      sound = standing_survives;
+      kept = λ x h nx. (members x).1 (inr (h, nx));
+      closed = λ x fx sx support.
+          let px = suspects x fx sx in
+          elim (asked x px sx) [
+            | inl never ↦ absurd (never (Survives-step (Supported f) (supported_monotone f) f standing x (All-from_contains (Survives (Supported f) f) standing standing_survives) fx support))
+            | inr all_asked ↦ (members x).1 (inl (closed x px sx (nearer found x all_asked (f_local standing found x standing_f (λ z hz. within z (found_part z hz)) fx (stood x all_asked fx) support))))
+          ];
+    }
+
     pub rounds_find_new : IsInOrder standing → IsNew c edit standing
-    rounds_find_new order =
-        rescued_is_new standing order (local_rounds (Supported all) (Supported f) (Concerns u) suspect all c f change (supported_monotone f) (supported_monotone all)
-        (Supported part) (Concerns f) part found standing within f_local suspects
-        gathered
-        (λ s x px sx is. supported_among part f s x (λ t e k h col. within k h) is)
-        nearer
-        clear found_part sound closed (λ x h. (members x).0 h) (λ x h. (members x).1 (inl h)) (λ x h nx. (members x).1 (inr (h, nx))))
+    rounds_find_new order = rescued_is_new standing order rescued
 
 pub new_from_rounds : (c edited f part found standing : List Item) (edit : Edit) (suspect : Item → Bool) (good : IsGood c) → IsFit c edit edited → IsWithSystem edited f → IsSpread c good.all edit f suspect → IsFound c f suspect part found standing → IsInOrder standing → IsNew c edit standing
 new_from_rounds c edited f part found standing edit suspect good fit with_f spread is order =
