@@ -1,2 +1,3 @@
+mod Noting
 mod Turning
 mod Undone

@@ -10,7 +10,10 @@ ghost use Rattle.graph_changes.specs.Changes.{CanChange};
 use item_index::Index;
 use std::hash::{BuildHasher, Hash};
 
-fn remove_all<K: Eq + Hash + Drop, S: BuildHasher + Drop>(index: &mut Index<K, S>, out: &[usize])
+pub(crate) fn remove_all<K: Eq + Hash + Drop, S: BuildHasher + Drop>(
+    index: &mut Index<K, S>,
+    out: &[usize],
+)
     requires { (old : List K) × HaveKeys index.old out.now old }
     ensures { index.new ≡ removed_all index.old out.now }
 {
