@@ -1,0 +1,9 @@
+mod Finding
+mod FirstKeys
+mod GoingOut
+mod Members
+mod Outgoing
+mod PlanFrom
+mod Planned
+mod Topics
+mod Wanted

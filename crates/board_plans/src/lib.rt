@@ -1,0 +1,10 @@
+//! The plan of an edit over a board: which numbers go out, which keys come in, and which links are made.
+#![tactic(auto)]
+
+mod arrivals;
+mod ends;
+mod out;
+mod plan;
+
+pub use arrivals::Arrival;
+pub use plan::{Plan, plan_of};
