@@ -1,10 +1,11 @@
 -- Where a key is found, and where it is nowhere.
-use Rattle.std.proofs.Common.{◌≡◌, ◌⊎◌, ℕ, zero, suc, Bool, true, false, nat_eq, nat_lt, if◌then◌else◌, List, [], ◌∷◌, ◌++◌, length, get_or, slice_get, Some, None, append_assoc, inl, inr, refl, sym, ◌∙◌, ap, subst}
+use Rattle.std.proofs.Common.{◌≡◌, ◌⊎◌, ℕ, zero, suc, Bool, true, false, nat_eq, nat_lt, if◌then◌else◌, List, [], ◌∷◌, ◌++◌, length, get_or, slice_get, Some, None, append_assoc, inl, inr, refl, sym, ◌∙◌, ap, subst, cond, ◌≤◌, ◌||◌, ◌+◌, arith}
 use Rattle.std.specs.Cmp.{IsEquivalence}
 use Rattle.std.specs.List.{All, Contains, list_any, position, position_or_len}
-use Rattle.std.proofs.lemmas.Bool.{both_ways, cases_lt, cond-false, cond-true, eqb-true, le-ltb, lt-ltb}
+use Rattle.std.proofs.lemmas.Bool.{both_ways, cases_Bool, cases_lt, cond-false, cond-true, eqb-true, le-ltb, lt-ltb}
 use Rattle.std.proofs.lemmas.List.{append-nil}
 use Rattle.std.proofs.lemmas.List.Elements.{Contains-append_cases, Contains-append_left, Contains-push}
+use Rattle.std.proofs.lemmas.List.Folds.{list_any-append}
 use Rattle.std.proofs.lemmas.List.Sums.{passes_at_first}
 use Rattle.std.proofs.lemmas.Map.Views.{Contains-from_any, list_any-from_Contains}
 use Rattle.std.proofs.lemmas.Option.{slice_get-get_or, slice_get_within}
@@ -17,7 +18,7 @@ use Rattle.graph_changes.specs.declared.ends.End.{End}
 use Rattle.graph_changes.specs.declared.ends.End.TheVariants.{Stays, Comes}
 use Rattle.graph_changes.specs.Ends.{ArePlaced, IsPlaced}
 use Rattle.indexmap.specs.IndexSet.{insert_key}
-use Rattle.board_plans.specs.Ends.{AreEnds, Ends, IsEnd, IsEndAmong, IsNewKey, IsPlaceOf}
+use Rattle.board_plans.specs.Ends.{AreEnds, Ends, IsEnd, IsEndAmong, IsKnown, IsNewKey, IsPlaceOf, look_ups}
 use Rattle.board_plans.proofs.Members.{Apart, apart_append, apart_of_pairs, pairs_of_apart, zip_push, zip_right, zip_weaker}
 
 -- ---- places
@@ -173,3 +174,37 @@ ends_placed eq g out before keys wanted ends are =
     placed : (k : Item) (end : End) → IsEnd eq g out keys k end → IsPlaced (length keys) end
     placed k (Stays n) at = tt
     placed k (Comes place) at = slice_get_within keys place at.0 at.1
+
+-- ---- look-ups
+
+module _ (eq : Item → Item → Bool) where
+  pub none_known : (keys : List Item) (k : Item) → list_any (eq k) keys ≡ true → look_ups eq keys k ≡ 0
+  none_known keys k told = ap (λ (b : Bool). cond b 0 1) told
+
+  pub one_new : (keys : List Item) (k : Item) → list_any (eq k) keys ≡ false → look_ups eq keys k ≡ 1
+  one_new keys k none = ap (λ (b : Bool). cond b 0 1) none
+
+  pub one_at_most : (keys : List Item) (k : Item) → look_ups eq keys k ≤ 1
+  one_at_most keys k = elim (cases_Bool (list_any (eq k) keys)) [ inl told ↦ let e = none_known keys k told in omega arith | inr none ↦ let e = one_new keys k none in omega arith ]
+
+  still_known : (keys more : List Item) (k : Item) → list_any (eq k) keys ≡ true → list_any (eq k) (keys ++ more) ≡ true
+  still_known keys more k told = list_any-append (eq k) keys more ∙ ap (λ (b : Bool). b || list_any (eq k) more) told
+
+  known_after : (g : Graph Item) (out : List ℕ) (before after : List Item) (k j : Item) (end : End) → Ends eq g out before after k end → list_any (eq j) before ≡ true → list_any (eq j) after ≡ true
+  known_after g out before after k j end is told =
+      elim is.keys [
+        | inl same ↦ subst (λ (ks : List Item). list_any (eq j) ks ≡ true) (sym same) told
+        | inr joined ↦ subst (λ (ks : List Item). list_any (eq j) ks ≡ true) (sym joined.0) (still_known before (k ∷ []) j told)
+      ]
+
+  -- of a link with a known end
+  pub one_of_both : (g : Graph Item) (out : List ℕ) (first before after : List Item) (wanted : List (Item × Item)) (ends : List (End × End)) (l : Item × Item) (end : End)
+      → AreEnds eq g out first before wanted ends → Ends eq g out before after l.0 end → IsKnown eq first l → look_ups eq before l.0 + look_ups eq after l.1 ≤ 1
+  one_of_both g out first before after wanted ends l end are is known =
+      let kept : (k : Item) → list_any (eq k) first ≡ true → list_any (eq k) before ≡ true = λ k told. subst (λ (ks : List Item). list_any (eq k) ks ≡ true) (sym are.behind) (still_known first are.more k told) in
+      let from = one_at_most before l.0 in
+      let to = one_at_most after l.1 in
+      elim known [
+        | inl told ↦ let none = none_known before l.0 (kept l.0 told) in omega arith
+        | inr told ↦ let none = none_known after l.1 (known_after g out before after l.0 l.1 end is (kept l.1 told)) in omega arith
+      ]

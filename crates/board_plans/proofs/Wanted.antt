@@ -27,13 +27,13 @@ of_option : (o : Option Item) (x : Item) → Contains (option_to_list o) x → o
 of_option None x h = absurd (Contains-nil x h)
 of_option (Some y) x h = elim (Contains-cases y [] x h) [ inl e ↦ ap (λ (z : Item). Some z) e | inr none ↦ absurd (Contains-nil x none) ]
 
-abbrev IsTo : Arrival → Item × Item → Type 0
+abbrev pub IsTo : Arrival → Item × Item → Type 0
 IsTo a l = (k : Item) × Contains a.depends_on k × ((a.key, k) ≡ l)
 
-abbrev IsFrom : Arrival → Item × Item → Type 0
+abbrev pub IsFrom : Arrival → Item × Item → Type 0
 IsFrom a l = (k : Item) × Contains a.stands_under k × ((k, a.key) ≡ l)
 
-abbrev IsAdding : Arrival → Item × Item → Type 0
+abbrev pub IsAdding : Arrival → Item × Item → Type 0
 IsAdding a l = (k : Item) × (a.adds_to ≡ Some k) × ((a.key, k) ≡ l)
 
 to : Arrival → List (Item × Item)
@@ -61,7 +61,7 @@ links_are : (a : Arrival) → links_by a ≡ (to a ++ from a) ++ adding a
 unfolding to from adding
 links_are a = refl
 
-of_links : (a : Arrival) (l : Item × Item) → Contains (links_by a) l → IsTo a l ⊎ (IsFrom a l ⊎ IsAdding a l)
+pub of_links : (a : Arrival) (l : Item × Item) → Contains (links_by a) l → IsTo a l ⊎ (IsFrom a l ⊎ IsAdding a l)
 of_links a l h =
     elim (Contains-append_cases (to a ++ from a) (adding a) l (subst (λ (ls : List (Item × Item)). Contains ls l) (links_are a) h)) [
       | inl topics ↦ (elim (Contains-append_cases (to a) (from a) l topics) [ inl one ↦ inl (is_to a l one) | inr other ↦ inr (inl (is_from a l other)) ])

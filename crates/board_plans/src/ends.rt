@@ -1,6 +1,7 @@
 //! Ends of links, where keys come in that no number has which stays.
 
-ghost use Rattle.std.specs.Prelude.{◌≡◌, ◌+◌, ◌*◌, ◌≤◌, IfOk, length};
+ghost use Rattle.std.specs.Prelude.{◌≡◌, ◌+◌, ◌≤◌, IfOk, length};
+ghost use Rattle.std.specs.List.{All};
 ghost use Rattle.cat_items.specs.contracts.item.ItemPartialEq.TheImpl as same;
 ghost use Rattle.board_plans.specs.Ends as spec;
 
@@ -20,7 +21,7 @@ fn end_of<L: Ledger>(
     steps: &mut Steps<L>,
 ) -> Result<End, AllocError>
     ensures end { IfOk result (λ end. spec.Ends same.ghosts.eq board.now out.now.keys keys.old.keys keys.new.keys key.now end) }
-    ensures few { steps.new ≤ steps.old + 1 }
+    ensures few { steps.new ≤ steps.old + spec.look_ups same.ghosts.eq keys.old.keys key.now }
 {
     if let Some(place) = keys.get_index_of(key) {
         return Ok(End::Comes(place));
@@ -34,8 +35,8 @@ fn end_of<L: Ledger>(
     Ok(End::Comes(place))
 }
 
-/// The links between these keys, by their ends: a key comes in that none of `keys` is, and that no number has which stays. At most two look-ups
-/// of each link. `Err` is want of memory.
+/// The links between these keys, by their ends: a key comes in that none of `keys` is, and that no number has which stays. Of each link one end is
+/// looked up at most, since the other is among `keys`. `Err` is want of memory.
 pub fn ends_of<L: Ledger>(
     alloc: Global,
     board: &Index<Item>,
@@ -44,8 +45,9 @@ pub fn ends_of<L: Ledger>(
     wanted: &[(Item, Item)],
     steps: &mut Steps<L>,
 ) -> Result<Vec<(End, End)>, AllocError>
+    requires { All (spec.IsKnown same.ghosts.eq keys.old.keys) wanted.now }
     ensures ends { IfOk result (λ ends. spec.AreEnds same.ghosts.eq board.now out.now.keys keys.old.keys keys.new.keys wanted.now ends.items) }
-    ensures few { steps.new ≤ steps.old + 2 * length wanted.now }
+    ensures few { steps.new ≤ steps.old + length wanted.now }
 {
     let mut ends = Vec::new(alloc);
     for (from, to) in wanted {

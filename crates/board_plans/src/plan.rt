@@ -1,6 +1,6 @@
 //! The plan of an edit.
 
-ghost use Rattle.std.specs.Prelude.{◌≡◌, ◌+◌, ◌*◌, ◌≤◌, Bool, IfOk, List, length};
+ghost use Rattle.std.specs.Prelude.{◌≡◌, ◌+◌, ◌≤◌, Bool, IfOk, List, length};
 ghost use Rattle.std.specs.List.{All, sum_by};
 ghost use Rattle.graph_steps.specs.Steps.{AreNodes};
 ghost use Rattle.graph_changes.specs.Ends.{ArePlaced, links_of};
@@ -37,7 +37,7 @@ pub struct Plan {
 }
 
 /// The plan for a board whose touched numbers are those of the suspects, and of topics, and to which these come. Topics that are left without
-/// links stay. `Err` is want of memory.
+/// links stay. It looks up each touched number, and an end of each link at most. `Err` is want of memory.
 pub fn plan_of<L: Ledger>(
     alloc: Global,
     board: &Index<Item>,
@@ -49,7 +49,7 @@ pub fn plan_of<L: Ledger>(
     ensures plan { IfOk result (λ plan. (c new : List Item) (suspect : Item → Bool) → CanPlan same.ghosts.eq board.now c new suspect touched.now.keys arrivals.now
         → IsPlanOf board.now c new suspect plan.out.items plan.keys.items (links_of board.now plan.out.items plan.keys.items plan.links.items)) }
     ensures placed { IfOk result (λ plan. All (ArePlaced (length plan.keys.items)) plan.links.items) }
-    ensures few { steps.new ≤ steps.old + length touched.now.keys + 2 * sum_by (λ a. length (links_by a)) arrivals.now }
+    ensures few { steps.new ≤ steps.old + length touched.now.keys + sum_by (λ a. length (links_by a)) arrivals.now }
 {
     let out = outgoing(alloc, board, touched, steps)?;
     let mut keys = keys_of_all(alloc, arrivals)?;

@@ -7,8 +7,11 @@ use Rattle.cat_items.specs.contracts.item.ItemEq.TheImpl.Laws as laws
 use Rattle.graph_changes.specs.Ends.{ArePlaced}
 use Rattle.board_plans.specs.Arrivals.{links_by}
 use Rattle.board_plans.proofs.Finding.{ends_placed}
-use Rattle.board_plans.proofs.PlanFrom.{plan_from}
+use Rattle.board_plans.proofs.PlanFrom.{all_known, plan_from}
 use Rattle.board_plans.proofs.plan.plan_of.Goals as goal
+
+pub ends_of-requires : goal.ends_of-requires
+ends_of-requires g c = all_known same.ghosts.eq laws.laws-law c.args.arrivals.now c.in_ok-keys.keys.keys c.in_ok-keys.ensures c.as_slice.result.now (c.as_slice.ensures.value ∙ c.in_ok-wanted.ensures)
 
 pub returns-in_err-links-clause-few : goal.returns-in_err-links-clause-few
 returns-in_err-links-clause-few g c =
