@@ -1,0 +1,6 @@
+pub mod AskLaws
+pub mod BeginLaws
+pub mod GrowthLaws
+pub mod PartLaws
+pub mod RoundLaws
+pub mod UnderLaws

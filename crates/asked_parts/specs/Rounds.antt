@@ -1,0 +1,46 @@
+-- How far a part has come, by the board alone.
+use Rattle.std.specs.Prelude.{◌≡◌, ◌⊎◌, ℕ, List, Option, Some, None}
+use Rattle.std.specs.List.{Contains}
+use Rattle.finite_chains.specs.Chains.{IsWithin}
+use Rattle.item_index.specs.Graphs.{Graph}
+use Rattle.cat_items.specs.declared.item.Item.{Item}
+use Rattle.cat_items.specs.declared.item.Item.TheVariants as item
+use Rattle.cat_items.specs.Catalogues.{IsInOrder}
+use Rattle.asked_parts.specs.Parts.{IsAskedBy}
+use Rattle.asked_parts.specs.Under.{IsUnmarked, IsUnderKey}
+
+-- what an option adds to
+abbrev pub option_of : Item → Option Item
+option_of (item.Grantable r) = Some (item.Held r)
+option_of (item.RoleAdmin g) = Some (item.RoleAuth g)
+option_of x = None
+
+-- an unmarked item that the item's option adds to
+abbrev pub IsAddedTo : Graph Item → List ℕ → Item → Item → Type 0
+IsAddedTo g marks x y = (option_of x ≡ Some y) × IsUnmarked g marks y
+
+abbrev pub IsAddedToBySome : Graph Item → List ℕ → List Item → Item → Type 0
+IsAddedToBySome g marks suspects y = (x : Item) × Contains suspects x × IsAddedTo g marks x y
+
+-- the suspects, and what their options add to
+pub record IsBegun (g : Graph Item) (marks : List ℕ) (suspects part : List Item) : Type 0 where
+  pub has_suspects : IsWithin suspects part
+  pub options : (x y : Item) → Contains suspects x → IsAddedTo g marks x y → Contains part y
+
+-- the part has all that its suspects ask for
+pub record IsClosed (g : Graph Item) (marks : List ℕ) (suspects part : List Item) : Type 0 where
+  pub begun : IsBegun g marks suspects part
+  pub asked : (k y : Item) → IsAskedBy part suspects k → IsUnderKey g marks k y → Contains part y
+
+-- the part has all that was asked for, and nothing but suspects and unmarked items
+pub record IsUnderWay (g : Graph Item) (marks : List ℕ) (suspects part asked : List Item) : Type 0 where
+  pub order : IsInOrder part
+  pub asked_order : IsInOrder asked
+  pub begun : IsBegun g marks suspects part
+  pub from : (x : Item) → Contains part x → Contains suspects x ⊎ IsUnmarked g marks x
+  pub asked_for : (k : Item) → Contains asked k → IsAskedBy part suspects k
+  pub found : (k y : Item) → Contains asked k → IsUnderKey g marks k y → Contains part y
+
+-- the part is within each that is closed
+abbrev pub IsLeast : Graph Item → List ℕ → List Item → List Item → Type 0
+IsLeast g marks suspects part = (p : List Item) → IsClosed g marks suspects p → IsWithin part p
