@@ -1,0 +1,8 @@
+//! A sample: a generated script that is run on a book of its own, and how it went, in numbers.
+#![tactic(auto)]
+
+mod kinds;
+mod run;
+mod summary;
+
+pub use run::sample;
