@@ -1,11 +1,11 @@
 -- How the program may end.
 use Rattle.std.specs.Prelude.{◌≡◌, ◌⊎◌, ◌↔◌, ℕ, Bool, IsTrue, List, Option, Some}
-use Rattle.cat_items.specs.declared.limits.Limits.{Limits}
 use Rattle.cat_engine.specs.Contents.{State}
 use Rattle.cat_items.specs.Good.{IsGood}
 use Rattle.cat_engine.specs.Histories.{IsOpening}
 use Rattle.cat_engine.specs.Shared.{history_of, origin_of}
 use Rattle.cat_engine.specs.declared.machine.Origin.{Origin}
+use Rattle.sample_runs.specs.Sampled.{standard_limits}
 use Rattle.sessions.specs.Calls.{IsApplied}
 use Rattle.sessions.specs.Script.{Io, IsWellEnded, io}
 use Rattle.sessions.specs.Script as scripts
@@ -17,7 +17,7 @@ use Rattle.sessions.specs.declared.status.Status.TheVariants.{Done, Usage, ReadF
 use Rattle.ddl_service.specs.Commands.{Asks, AsksForDefinition}
 use Rattle.ddl_service.specs.Finish.{Finishes}
 use Rattle.ddl_service.specs.declared.command_line.Command.{Command}
-use Rattle.ddl_service.specs.declared.command_line.Command.TheVariants.{Script, Serve}
+use Rattle.ddl_service.specs.declared.command_line.Command.TheVariants.{Script, Serve, Sample}
 
 -- the status of a script's end
 abbrev pub status_of : Ended → Status
@@ -26,10 +26,6 @@ status_of ended.ReadFault = ReadFault
 status_of ended.WriteFault = WriteFault
 status_of ended.TooLong = TooLong
 status_of ended.Unfinished = Unfinished
-
--- the limits of the program
-abbrev pub standard_limits : Limits
-standard_limits = record { items = 200000; columns = 1000; journal = 268435456; stream = 1073741824 }
 
 -- the script of these users ran from the opening, under the standard limits; where it is done and the Definition Schema is asked for, that was written of the
 -- catalogue behind it
@@ -71,11 +67,12 @@ pub record Untouched {S W : Type 0} (source_before source_after : S) (sink_befor
   pub source : source_after ≡ source_before
   pub sink : sink_after ≡ sink_before
 
--- where the words ask for a script or a server, that ran of the users that they list; where they ask for none the program says so; before either, memory may run out
-abbrev pub Ends : List (List ℕ) → Status → Type 0 → (Bool → List (List ℕ) → Type 0) → (Bool → List (List ℕ) → ℕ → Type 0) → Type 0
-Ends words status untouched ran_script ran_server =
+-- where the words ask for a script, a server or a sample, that ran of the users that they list; where they ask for none the program says so; before any, memory may run out
+abbrev pub Ends : List (List ℕ) → Status → Type 0 → (Bool → List (List ℕ) → Type 0) → (Bool → List (List ℕ) → ℕ → Type 0) → (List (List ℕ) → ℕ → ℕ → Type 0) → Type 0
+Ends words status untouched ran_script ran_server ran_sample =
     ((users : List (List ℕ)) × (definition : Bool) × Asks words Script users × (IsTrue definition ↔ AsksForDefinition words) × ran_script definition users)
     ⊎ ((users : List (List ℕ)) × (definition : Bool) × (port connections : ℕ) × Asks words (Serve port connections) users × (IsTrue definition ↔ AsksForDefinition words) × ran_server definition users connections)
+    ⊎ ((users : List (List ℕ)) × (seed count : ℕ) × Asks words (Sample seed count) users × ran_sample users seed count)
     ⊎ ((status ≡ Usage) × ((command : Command) (users : List (List ℕ)) → ¬ (Asks words command users)) × untouched)
     ⊎ ((status ≡ OutOfMemory) × untouched)
 

@@ -6,6 +6,7 @@ mod finish;
 mod regular;
 mod start;
 
+pub use sample_runs::sample;
 pub use sessions::{
     Ended, Over, Ran, Served, Status, run_script, serve, serve_session, write_reply,
 };

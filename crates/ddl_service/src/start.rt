@@ -1,5 +1,6 @@
 ghost use Rattle.std.specs.Prelude.{◌≡◌, ◌≢◌, ◌≤◌, IfOk, OnErr, map};
 ghost use Rattle.std.specs.String.{string_bytes};
+ghost use Rattle.sample_runs.specs.Sampled.{Sampled};
 ghost use Rattle.sessions.specs.Script.{io};
 ghost use Rattle.ddl_service.specs.Top as spec;
 ghost use Rattle.ddl_service.specs.Users.{AreUsers};
@@ -9,6 +10,7 @@ use crate::command_line::{Asked, Command, asked_by};
 use crate::finish::finish;
 use cat_engine::Book;
 use cat_items::Limits;
+use sample_runs::sample;
 use sessions::{Ended, Status, listen, run_script};
 use sql_tree::Name;
 use sql_words::Splitter;
@@ -91,15 +93,16 @@ pub fn top<R: Threads + Wait + Sync, S: Source, W: Sink, L: Listener>(
     sink: &mut W,
     listener: &mut L,
 ) -> Status
-    // The words decide, and what they ask for is done of their users from the opening to its end. A script leaves the listener, and a
-    // server the source; what a server gives the sink is the Definition Schema alone.
+    // The words decide, and what they ask for is done of their users from the opening to its end. A script leaves the listener, a
+    // server the source, and a sample both; what a server gives the sink is the Definition Schema alone.
     ensures ends { spec.Ends (map (λ word. string_bytes word) words.now.items) result
         (spec.Untouched source.old source.new sink.old sink.new × (listener.new ≡ listener.old))
         (λ definition users. spec.RanScript definition result users (io (S.left source.old) (W.given sink.old)) (io (S.left source.new) (W.given sink.new)) × (listener.new ≡ listener.old))
         (λ definition users connections. spec.RanServer L.Conn.left L.Conn.given L.Conn.Source.faults L.Conn.Sink.faults definition result users connections
         (L.left listener.old) (L.left listener.new) (L.returned listener.old) (L.returned listener.new) (L.out listener.old) (L.out listener.new)
         (W.given sink.old) (W.given sink.new)
-        × (result ≡ Status.Done → L.faults listener.new ≡ L.faults listener.old) × (source.new ≡ source.old)) }
+        × (result ≡ Status.Done → L.faults listener.new ≡ L.faults listener.old) × (source.new ≡ source.old))
+        (λ users seed count. Sampled users seed count result (W.given sink.old) (W.given sink.new) × (source.new ≡ source.old) × (listener.new ≡ listener.old)) }
     ensures script { spec.ScriptIsDone (map (λ word. string_bytes word) words.now.items) result (S.left source.old)
         (Rose (S.faults source.old) (S.faults source.new)) (Rose (W.faults sink.old) (W.faults sink.new)) }
     ensures read_fault { result ≡ Status.ReadFault → Rose (S.faults source.old) (S.faults source.new) }
@@ -121,6 +124,9 @@ pub fn top<R: Threads + Wait + Sync, S: Source, W: Sink, L: Listener>(
                 Ok(status) => status,
                 Err(_) => Status::OutOfMemory,
             }
+        }
+        Command::Sample { seed, count } => {
+            sample(alloc, &asked.users, seed as u64, count as u32, sink)
         }
     }
 }
