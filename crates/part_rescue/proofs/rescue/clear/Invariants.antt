@@ -1,0 +1,5 @@
+use Rattle.part_rescue.proofs.Clear.{IsClearTo}
+use Rattle.part_rescue.proofs.rescue.clear.Given as goal
+
+abbrev pub invariant-loop-at : goal.invariant-loop-at
+invariant-loop-at l = IsClearTo l.suspects.items l.part.items l.marks l.at

@@ -1,0 +1,8 @@
+//! What stands of the part of an edited catalogue over which an edit's suspects are judged.
+#![tactic(auto)]
+
+mod laws;
+mod rescue;
+
+pub use laws::what_is_rescued_is_found;
+pub use rescue::{found_of, rescued};
