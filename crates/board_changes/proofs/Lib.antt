@@ -1,0 +1,4 @@
+mod Backward
+mod Forward
+mod Going
+mod Settling
