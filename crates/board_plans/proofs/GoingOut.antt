@@ -10,7 +10,7 @@ use Rattle.board_graph.specs.BoardKeys.{IsKeyOf}
 use Rattle.board_steps.specs.Plans.{IsBoardKey, IsOfSuspect}
 use Rattle.board_steps.proofs.Apart.{no_topic, one_item, same_key, alike_back}
 use Rattle.board_plans.specs.declared.arrivals.Arrival.{Arrival}
-use Rattle.board_plans.specs.Out.{AreOutgoing, is_topic}
+use Rattle.board_plans.specs.Leaving.{AreOutgoing, is_topic}
 use Rattle.board_plans.specs.Planning.{CanPlan}
 use Rattle.board_plans.proofs.Topics.{item_is_none, topic_is}
 

@@ -10,7 +10,7 @@ use Rattle.item_index.specs.Graphs.{Graph, HasKey}
 use Rattle.graph_steps.proofs.Numbers.{one_key}
 use Rattle.indexmap.specs.IndexSet.{insert_key}
 use Rattle.cat_items.specs.declared.item.Item.{Item}
-use Rattle.board_plans.specs.Out.{AreOutgoing, IsOutgoing, is_topic}
+use Rattle.board_plans.specs.Leaving.{AreOutgoing, IsOutgoing, is_topic}
 use Rattle.board_plans.proofs.Members.{Apart, apart_append, apart_of_pairs, pairs_of_apart}
 
 module _ (g : Graph Item) where

@@ -13,7 +13,7 @@ use Rattle.indexmap.specs.IndexSet.{insert_key}
 use Rattle.board_plans.specs.declared.arrivals.Arrival.{Arrival}
 use Rattle.board_plans.specs.Arrivals.{links_by}
 use Rattle.board_plans.specs.Ends.{AreEnds, IsKnown}
-use Rattle.board_plans.specs.Out.{AreOutgoing}
+use Rattle.board_plans.specs.Leaving.{AreOutgoing}
 use Rattle.board_plans.specs.Planning.{CanPlan}
 use Rattle.board_plans.proofs.FirstKeys.{all_join, told_among}
 use Rattle.board_plans.proofs.Members.{map_has, of_flat, of_map, pairs_map}

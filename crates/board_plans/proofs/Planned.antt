@@ -23,7 +23,7 @@ use Rattle.board_steps.proofs.Apart.{alike_back, is_known, no_topic, one_item, s
 use Rattle.board_plans.specs.declared.arrivals.Arrival.{Arrival}
 use Rattle.board_plans.specs.Arrivals.{links_by}
 use Rattle.board_plans.specs.Ends.{AreEnds, IsEnd, IsEndAmong, IsNewKey, IsPlaceOf, IsStaying}
-use Rattle.board_plans.specs.Out.{AreOutgoing}
+use Rattle.board_plans.specs.Leaving.{AreOutgoing}
 use Rattle.board_plans.specs.Planning.{CanPlan}
 use Rattle.board_plans.proofs.GoingOut.{clear_number, no_suspect_stays, old_key, only_out, suspects_out}
 use Rattle.board_plans.proofs.Members.{Apart, apart_of_pairs, length-given, map_has, of_map, pairs_map, pairs_of_apart, zip_apart, zip_at, zip_key, zip_left, zip_one, zip_right}

@@ -13,7 +13,7 @@ use Rattle.cascade_laws.specs.Topics.{Topic}
 use Rattle.board_graph.specs.BoardKeys.{IsHelper, IsKeyOf, IsPlace, ghost_key, of_item, of_possible, topic_key}
 use Rattle.board_graph.specs.Boards.{IsOwnTopic}
 use Rattle.board_steps.specs.Plans.{HasNoHelper}
-use Rattle.board_plans.specs.Out.{is_public, is_system, is_topic}
+use Rattle.board_plans.specs.Leaving.{is_public, is_system, is_topic}
 
 -- a topic's key is one
 pub topic_is : (t : Topic) → IsOwnTopic t → is_topic (topic_key t) ≡ true

@@ -1,4 +1,4 @@
 pub mod Arrivals
 pub mod Ends
-pub mod Out
+pub mod Leaving
 pub mod Planning

@@ -3,7 +3,7 @@
 
 mod arrivals;
 mod ends;
-mod out;
+mod leaving;
 mod plan;
 
 pub use arrivals::Arrival;

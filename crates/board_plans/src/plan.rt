@@ -12,7 +12,7 @@ ghost use Rattle.board_plans.specs.Planning.{CanPlan};
 
 use crate::arrivals::{Arrival, keys_of_all, links_by_all};
 use crate::ends::ends_of;
-use crate::out::outgoing;
+use crate::leaving::outgoing;
 use cat_items::Item;
 use graph_changes::End;
 use indexmap::IndexSet;

@@ -1,6 +1,6 @@
 use Rattle.std.proofs.Common.{◌≡◌, ◌+◌, take}
-use Rattle.board_plans.specs.Out.{AreOutgoing}
-use Rattle.board_plans.proofs.out.outgoing.Given as goal
+use Rattle.board_plans.specs.Leaving.{AreOutgoing}
+use Rattle.board_plans.proofs.leaving.outgoing.Given as goal
 
 abbrev pub invariant-loop-number : goal.invariant-loop-number
 invariant-loop-number g l = record {

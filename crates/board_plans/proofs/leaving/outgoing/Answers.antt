@@ -1,9 +1,9 @@
 use Rattle.std.proofs.Common.{ℕ, List, [], ◌∷◌, ◌++◌, get_or, take, subst, sym, ◌∙◌, ap, arith}
 use Rattle.std.proofs.lemmas.List.{take_more}
-use Rattle.board_plans.specs.Out.{AreOutgoing}
+use Rattle.board_plans.specs.Leaving.{AreOutgoing}
 use Rattle.board_plans.proofs.Outgoing.{out_other, out_topic}
-use Rattle.board_plans.proofs.out.outgoing.Goals as goal
-use Rattle.board_plans.proofs.out.outgoing.Goals.{then-not-is_topic+in_ok-insert, else-not-is_topic}
+use Rattle.board_plans.proofs.leaving.outgoing.Goals as goal
+use Rattle.board_plans.proofs.leaving.outgoing.Goals.{then-not-is_topic+in_ok-insert, else-not-is_topic}
 
 pub loop-number-preserved : goal.loop-number-preserved
 loop-number-preserved g c =

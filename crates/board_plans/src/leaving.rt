@@ -2,7 +2,7 @@
 
 ghost use Rattle.std.specs.Prelude.{◌≡◌, ◌+◌, ◌≤◌, IfOk, length};
 ghost use Rattle.graph_steps.specs.Steps.{AreNodes};
-ghost use Rattle.board_plans.specs.Out as spec;
+ghost use Rattle.board_plans.specs.Leaving as spec;
 
 use cat_items::{Auth, Item, Right};
 use indexmap::IndexSet;
