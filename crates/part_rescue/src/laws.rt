@@ -1,8 +1,8 @@
 //! The law stands in the contract of a function that does nothing.
 
-ghost use Rattle.std.specs.Prelude.{◌≡◌, ℕ, List, Bool, false, true};
+ghost use Rattle.std.specs.Prelude.{◌≡◌, ◌↔◌, ℕ, List, Bool, false, true};
 ghost use Rattle.std.specs.List.{Contains};
-ghost use Rattle.item_index.specs.Graphs.{Graph};
+ghost use Rattle.item_index.specs.Graphs.{Graph, HasKey};
 ghost use Rattle.cat_items.specs.declared.edit.Edit.{Edit};
 ghost use Rattle.cat_items.specs.declared.item.Item.{Item};
 ghost use Rattle.cat_items.specs.Catalogues.{IsInOrder};
@@ -15,8 +15,17 @@ ghost use Rattle.cascade_laws.specs.Asks.{Asks};
 ghost use Rattle.cascade_laws.specs.Found.{IsFound};
 ghost use Rattle.cascade_laws.specs.Spreading.{IsSpread};
 ghost use Rattle.cascade_laws.specs.Topics.{IsUnder, Topic};
-ghost use Rattle.asked_parts.specs.Parts.{IsPartOf};
+ghost use Rattle.board_graph.specs.BoardKeys.{IsKeyOf};
+ghost use Rattle.board_steps.specs.Plans.{IsFullBoard};
+ghost use Rattle.asked_parts.specs.Parts.{IsKept, IsPartOf};
 ghost use Rattle.part_rescue.specs.Rescued.{AreRescued, AreTold, IsStanding};
+
+/// Where what is known is a suspect exactly where the number of its key is marked, the board tells the items that are no suspects: those that have an
+/// unmarked number.
+pub fn a_board_tells_what_is_no_suspect()
+    ensures { (g : Graph Item) (c : List Item) (touched : List ℕ) (suspect : Item → Bool) → IsFullBoard g c → ((x k : Item) (n : ℕ) → IsKeyOf c x k → HasKey g n k → (suspect x ≡ true) ↔ Contains touched n)
+        → (y : Item) → IsKept g c touched y ↔ (Contains c y × (suspect y ≡ false)) }
+{}
 
 /// Where suspicion has spread from an edit, and the part has the suspects and what they ask for, what is rescued of the part is all that rounds over
 /// it have to find (`found`); so with the old items that are no suspects it is the new catalogue (`new`). The part has all that its suspects ask for

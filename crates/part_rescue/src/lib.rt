@@ -4,5 +4,5 @@
 mod laws;
 mod rescue;
 
-pub use laws::what_is_rescued_is_found;
+pub use laws::{a_board_tells_what_is_no_suspect, what_is_rescued_is_found};
 pub use rescue::{found_of, rescued};
