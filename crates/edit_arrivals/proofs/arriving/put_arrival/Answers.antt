@@ -1,0 +1,14 @@
+use Rattle.std.proofs.Common.{refl, subst}
+use Rattle.board_graph.specs.BoardKeys.{IsKeyOf}
+use Rattle.edit_arrivals.specs.Steps.{IsTheOne, no_key, one_key}
+use Rattle.edit_arrivals.proofs.Options.{none_is}
+use Rattle.edit_arrivals.proofs.arriving.put_arrival.Goals as goal
+
+pub arrival_of-requires-clause-key : goal.arrival_of-requires-clause-key
+arrival_of-requires-clause-key c = (subst (IsTheOne (IsKeyOf c.args.found.now.items c.args.x.now)) c.in-Some.is c.in_ok-key_in.ensures c.in-Some.key).0 refl
+
+pub returns-in-None : goal.returns-in-None
+returns-in-None c = no_key (λ k key. none_is k ((subst (IsTheOne (IsKeyOf c.args.found.now.items c.args.x.now)) c.in-None.is c.in_ok-key_in.ensures k).1 key)) refl
+
+pub returns-in_ok-push-in-Some : goal.returns-in_ok-push-in-Some
+returns-in_ok-push-in-Some c = one_key c.in_ok-arrival-in-Some.arrival c.in_ok-arrival-in-Some.ensures c.in_ok-push-in-Some.ensures.items
