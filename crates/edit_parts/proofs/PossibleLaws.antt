@@ -1,0 +1,69 @@
+-- Rights that are put in unless a node without a mark keeps them, and the suspects by these.
+use Rattle.std.proofs.Common.{◌≡◌, ◌⊎◌, ◌↔◌, inl, inr, ℕ, List, [], refl, sym, ◌∙◌, subst}
+use Rattle.std.specs.List.{Contains}
+use Rattle.item_index.specs.Graphs.{Graph}
+use Rattle.cat_items.specs.declared.edit.Edit.{Edit}
+use Rattle.cat_items.specs.declared.item.Item.{Item}
+use Rattle.cat_items.specs.declared.item.Item.TheVariants as item
+use Rattle.cat_items.specs.Survivors.{IsSystemRight}
+use Rattle.edit_rules.specs.Chosen.{IsRightOrRoleGrant}
+use Rattle.edit_rules.proofs.ItemKeys.{only_granted}
+use Rattle.board_graph.specs.BoardKeys.{ghost_key}
+use Rattle.board_marks.specs.Marks.{IsMarked}
+use Rattle.topic_keys.specs.Lists.{Gets}
+use Rattle.topic_keys.proofs.Adding.{gets_alike, gets_both, gets_none}
+use Rattle.topic_lists.proofs.Runs.{gets_from_none}
+use Rattle.edit_suspects.specs.Seeds.{HaveSpread, of_changed, of_target}
+use Rattle.asked_parts.specs.Under as under
+use Rattle.asked_parts.proofs.UnderLaws.{flipped}
+use Rattle.edit_parts.specs.Parts.{AreTouchedItems, IsPossibleSuspect, IsSuspectBy, IsUnlessKept}
+use Rattle.edit_parts.specs.Touched.{AreApart, IsTouchedItem, IsTouchedRight}
+use Rattle.edit_parts.proofs.TouchedLaws.{may_is_granted}
+
+pub ghost_granted : (x : Item) → IsRightOrRoleGrant x → IsRightOrRoleGrant (ghost_key x)
+ghost_granted (item.Held r) is = tt
+ghost_granted (item.Grantable r) is = tt
+ghost_granted (item.RoleAuth g) is = is
+ghost_granted (item.RoleAdmin g) is = is
+ghost_granted _ is = absurd is
+
+module _ (g : Graph Item) (marks : List ℕ) (right : Item) where
+  pub kept_out : (old : List Item) → (IsMarked g marks right × IsMarked g marks (ghost_key right) → ⊥) → Gets (IsUnlessKept g marks right) old old
+  kept_out old none = gets_none (IsUnlessKept g marks right) old old refl (λ x h. none (h.1, h.2))
+
+  pub put_unless : (copy : Item) (old new : List Item) → copy ≡ right → IsMarked g marks right → IsMarked g marks (ghost_key right) → Gets (λ y. y ≡ copy) old new → Gets (IsUnlessKept g marks right) old new
+  put_unless copy old new is own ghost gets = gets_alike (λ y. y ≡ copy) (IsUnlessKept g marks right) old new (λ x. (λ e. (e ∙ is, own, ghost), λ h. h.0 ∙ sym is)) gets
+
+-- two lists, one after the other
+pub both_joined : (items rights lent_items lent_rights none mid new : List Item) → none ≡ [] → lent_items ≡ items → lent_rights ≡ rights → Gets (Contains lent_items) none mid → Gets (Contains lent_rights) mid new → (x : Item) → Contains new x ↔ (Contains items x ⊎ Contains rights x)
+both_joined items rights lent_items lent_rights none mid new empty same same2 first second =
+    gets_from_none (λ x. Contains items x ⊎ Contains rights x) (λ x. Contains items x ⊎ Contains rights x) none new empty (λ x. (λ h. h, λ h. h))
+    (gets_both (Contains items) (Contains rights) none mid new (subst (λ (l : List Item). Gets (Contains l) none mid) same first) (subst (λ (l : List Item). Gets (Contains l) mid new) same2 second))
+
+module _ (g : Graph Item) (edit : Edit) (marks : List ℕ) where
+  pub touched_granted : (rights : List Item) → ((x : Item) → Contains rights x ↔ IsTouchedRight g marks x) → (x : Item) → Contains rights x → IsRightOrRoleGrant x
+  touched_granted rights are x h = may_is_granted x ((are x).0 h).2.0
+
+  pub start_are : (items rights start : List Item) → ((x : Item) → Contains items x ↔ IsTouchedItem g marks edit x) → ((x : Item) → Contains rights x ↔ IsTouchedRight g marks x) → ((x : Item) → Contains start x ↔ (Contains items x ⊎ Contains rights x)) → AreTouchedItems g marks edit start
+  start_are items rights start touched right joined x = (
+    λ h. elim ((joined x).0 h) [ inl i ↦ inl ((touched x).0 i) | inr r ↦ inr ((right x).0 r) ],
+    λ h. (joined x).1 (elim h [ inl i ↦ inl ((touched x).1 i) | inr r ↦ inr ((right x).1 r) ]),
+  )
+
+  -- what is touched is apart from each unmarked item
+  pub start_apart : AreApart g edit → HaveSpread g edit marks → (start : List Item) → AreTouchedItems g marks edit start → under.AreApart g marks start
+  start_apart apart spread start are x y h free e = elim ((are x).0 h) [
+    | inr right ↦ only_granted x y (may_is_granted x right.2.0) e
+    | inl touched ↦ (elim touched [
+      | inl left ↦ apart.items x y ((left.0, left.2.0), left.2.1) ((free.0, free.1.0), free.1.2) e
+      | inr added ↦ sym (apart.added y x ((free.0, free.1.0), free.1.2) ((λ t. free.1.1 (spread.begun y (of_target t) free.0 free.1.0)), (λ t. free.1.1 (spread.begun y (of_changed t) free.0 free.1.0))) added (flipped x y e))
+    ])
+  ]
+
+  -- the touched items, and the possible rights that were put in
+  pub by_parts : (items rights part new : List Item) → ((x : Item) → Contains items x ↔ IsTouchedItem g marks edit x) → ((x : Item) → Contains rights x ↔ IsSystemRight part x)
+      → Gets (λ x. (right : Item) × Contains rights right × IsUnlessKept g marks right x) items new → (x : Item) → Contains new x ↔ IsSuspectBy g marks edit part x
+  by_parts items rights part new touched possible gets x = (
+    λ h. elim ((gets x).0 h) [ inl i ↦ inl ((touched x).0 i) | inr r ↦ inr (subst (IsPossibleSuspect g marks part) (sym r.2.0) ((possible r.0).0 r.1, r.2.1, r.2.2)) ],
+    λ h. (gets x).1 (elim h [ inl t ↦ inl ((touched x).1 t) | inr p ↦ inr (x, (possible x).1 p.0, (refl, p.1, p.2)) ]),
+  )

@@ -1,0 +1,167 @@
+//! The suspects of an edit.
+
+ghost use Rattle.std.specs.Prelude.{◌≡◌, ◌↔◌, ◌⊎◌, ◌+◌, ◌*◌, ◌≤◌, List, IsTrue, IfOk, OnOk, length, true};
+ghost use Rattle.std.specs.List.{Contains};
+ghost use Rattle.item_index.specs.Graphs.{IsWhole};
+ghost use Rattle.graph_steps.specs.Steps.{AreNodes};
+ghost use Rattle.cat_items.specs.contracts.item.ItemPartialEq.TheImpl as same;
+ghost use Rattle.cat_items.specs.declared.item.Item.{Item};
+ghost use Rattle.cat_items.specs.declared.need.Auth.TheVariants as auth;
+ghost use Rattle.cat_items.specs.Catalogues.{IsInOrder};
+ghost use Rattle.cat_items.specs.Fit.{IsFit};
+ghost use Rattle.cat_items.specs.Good.{IsGood};
+ghost use Rattle.cat_items.specs.Survivors.{IsWithSystem};
+ghost use Rattle.edit_rules.specs.Chosen.{IsRightOrRoleGrant};
+ghost use Rattle.board_graph.specs.BoardKeys as keys;
+ghost use Rattle.board_marks.specs.Marks.{IsMarked};
+ghost use Rattle.board_steps.specs.Plans.{IsFullBoard};
+ghost use Rattle.topic_keys.specs.Lists.{Gets};
+ghost use Rattle.edit_suspects.specs.Seeds.{HaveSpread};
+ghost use Rattle.edit_suspects.specs.Suspects.{AreFresh, is_suspect};
+ghost use Rattle.edit_parts.specs.Parts as spec;
+ghost use Rattle.edit_parts.specs.Touched.{FitsBoard};
+
+use crate::putting::put_all;
+use crate::touched::{TouchedItems, touched_items};
+use asked_parts::part_of;
+use cat_items::{Auth, Catalogue, Edit, Item, Right, Shared};
+use edit_rules::put;
+use indexmap::IndexSet;
+use item_index::{Index, Steps};
+use std::alloc::{AllocError, Global};
+use std::hash::BuildHasher;
+use std::sync::ledger::Ledger;
+use system_rights::system_items;
+
+fn ghost_right(right: &Right) -> Result<Right, AllocError>
+    ensures { IfOk result (λ ghost_right. ghost_right ≡ record right.now { grantor = right.now.grantee; grantee = auth.System }) }
+{
+    Ok(Right {
+        need: right.need.copy()?,
+        grantor: right.grantee.copy()?,
+        grantee: Auth::System,
+    })
+}
+
+/// The key of the ghost of a right.
+fn ghost_key(alloc: Global, x: &Item) -> Result<Item, AllocError>
+    ensures { IfOk result (λ key. key ≡ keys.ghost_key x.now) }
+{
+    match x {
+        Item::Held(right) => Ok(Item::Held(Shared::new(alloc, ghost_right(right.get())?)?)),
+        Item::Grantable(right) => Ok(Item::Grantable(Shared::new(
+            alloc,
+            ghost_right(right.get())?,
+        )?)),
+        _ => x.copy(),
+    }
+}
+
+/// Whether no node without a mark has this key of a right.
+fn is_marked<S: BuildHasher + Drop, L: Ledger>(
+    board: &Index<Item, S>,
+    marks: &IndexSet<usize>,
+    key: &Item,
+    steps: &mut Steps<L>,
+) -> bool
+    requires { IsRightOrRoleGrant key.now }
+    ensures marked { IsTrue result ↔ IsMarked board.now marks.now.keys key.now }
+    ensures ticks { steps.new ≡ steps.old + 1 }
+{
+    match board.node(key, steps) {
+        None => true,
+        Some(node) => marks.contains(&node),
+    }
+}
+
+/// Whether no node without a mark has the key of the ghost of this right.
+fn is_ghost_marked<S: BuildHasher + Drop, L: Ledger>(
+    alloc: Global,
+    board: &Index<Item, S>,
+    marks: &IndexSet<usize>,
+    right: &Item,
+    steps: &mut Steps<L>,
+) -> Result<bool, AllocError>
+    requires { IsRightOrRoleGrant right.now }
+    ensures marked { IfOk result (λ marked. IsTrue marked ↔ IsMarked board.now marks.now.keys (keys.ghost_key right.now)) }
+    ensures ticks { steps.new ≤ steps.old + 1 }
+{
+    let key = ghost_key(alloc, right)?;
+    Ok(is_marked(board, marks, &key, steps))
+}
+
+/// Puts in a right, if neither it nor its ghost has a node without a mark.
+fn put_suspect<S: BuildHasher + Drop, L: Ledger>(
+    alloc: Global,
+    board: &Index<Item, S>,
+    marks: &IndexSet<usize>,
+    right: &Item,
+    suspects: &mut Catalogue,
+    steps: &mut Steps<L>,
+) -> Result<(), AllocError>
+    requires { IsRightOrRoleGrant right.now }
+    ensures members { OnOk result (Gets (spec.IsUnlessKept board.now marks.now.keys right.now) suspects.old.items suspects.new.items) }
+    ensures ticks { steps.new ≤ steps.old + 2 }
+{
+    if !is_marked(board, marks, right, steps) {
+        return Ok(());
+    }
+    if !is_ghost_marked(alloc, board, marks, right, steps)? {
+        return Ok(());
+    }
+    put(suspects, right.copy()?)
+}
+
+/// Puts in those of these rights that have no node without a mark.
+fn put_suspects<S: BuildHasher + Drop, L: Ledger>(
+    alloc: Global,
+    board: &Index<Item, S>,
+    marks: &IndexSet<usize>,
+    rights: &[Item],
+    suspects: &mut Catalogue,
+    steps: &mut Steps<L>,
+) -> Result<(), AllocError>
+    requires { (x : Item) → Contains rights.now x → IsRightOrRoleGrant x }
+    ensures members { OnOk result (Gets (λ x. (right : Item) × Contains rights.now right × spec.IsUnlessKept board.now marks.now.keys right x) suspects.old.items suspects.new.items) }
+    ensures ticks { steps.new ≤ steps.old + 2 * length rights.now }
+{
+    for right in rights {
+        put_suspect(alloc, board, marks, right, suspects, steps)?;
+    }
+    Ok(())
+}
+
+/// Copies of the touched items and rights in one list.
+fn joined(alloc: Global, items: &Catalogue, rights: &Catalogue) -> Result<Catalogue, AllocError>
+    requires { (x : Item) → Contains rights.now.items x → IsRightOrRoleGrant x }
+    ensures { IfOk result (λ all. (x : Item) → Contains all.items x ↔ (Contains items.now.items x ⊎ Contains rights.now.items x)) }
+{
+    let mut all = Catalogue::of_sorted(Vec::new(alloc));
+    put_all(items.items(), &mut all)?;
+    put_all(rights.items(), &mut all)?;
+    Ok(all)
+}
+
+/// The suspects of an edit: the items that it touches and leaves or adds, and of the rights that the system could grant for the edited
+/// list those that are touched, or could not be granted before. It finds them over the part that the touched items ask for. `Err` is want
+/// of memory.
+pub fn suspects_of<S: BuildHasher + Drop, L: Ledger>(
+    alloc: Global,
+    board: &Index<Item, S>,
+    marks: &IndexSet<usize>,
+    edit: &Edit,
+    steps: &mut Steps<L>,
+) -> Result<Catalogue, AllocError>
+    requires nodes { AreNodes board.now marks.now.keys }
+    requires fits { FitsBoard board.now edit.now }
+    requires spread { HaveSpread board.now edit.now marks.now.keys }
+    ensures { IfOk result (λ suspects. (c edited f fresh : List Item) → IsGood c → IsWhole same.ghosts.eq board.now → IsFullBoard board.now c → IsFit c edit.now edited → IsWithSystem edited f → AreFresh c edited fresh
+        → (x : Item) → Contains suspects.items x ↔ (Contains f x × (is_suspect board.now marks.now.keys edit.now.added fresh x ≡ true))) }
+{
+    let TouchedItems { mut items, rights } = touched_items(alloc, board, marks, edit, steps)?;
+    let start = joined(alloc, &items, &rights)?;
+    let part = part_of(alloc, board, marks, &start, steps)?;
+    let rights = system_items(alloc, &part)?;
+    put_suspects(alloc, board, marks, rights.as_slice(), &mut items, steps)?;
+    Ok(items)
+}
