@@ -26,10 +26,10 @@ differ_rest n ns once i j d before below = once (suc i) (suc j) d (omega arith) 
 differ_first : (n : ℕ) (ns : List ℕ) → Differ (n ∷ ns) → (m : ℕ) → Contains ns m → m ≢ n
 differ_first n ns once m h e = once 0 (suc h.0) m (omega arith) (omega (arith, h.1)) (sym e ∙ sym h.2)
 
-there : (n : ℕ) (ns : List ℕ) → Contains ns n → list_any (nat_eq n) ns ≡ true
+pub there : (n : ℕ) (ns : List ℕ) → Contains ns n → list_any (nat_eq n) ns ≡ true
 there n ns h = list_any-from_Contains nat_eq_equiv n ns h
 
-told : (n : ℕ) (ns : List ℕ) → list_any (nat_eq n) ns ≡ true → Contains ns n
+pub told : (n : ℕ) (ns : List ℕ) → list_any (nat_eq n) ns ≡ true → Contains ns n
 told n ns h = Contains-from_any (λ x y e. eqb-true x y e) n ns h
 
 -- ---- keys

@@ -20,7 +20,7 @@ sure_true false sure = absurd (sure (λ e. never e))
     never : false ≡ true → ⊥
     never e = cc
 
-sure_le : (m n : ℕ) → ¬ (¬ (m ≤ n)) → m ≤ n
+pub sure_le : (m n : ℕ) → ¬ (¬ (m ≤ n)) → m ≤ n
 sure_le m n sure = elim (cases_lt n m) [ inl below ↦ absurd (sure (λ h. omega (arith, below, h))) | inr not ↦ omega (arith, not) ]
 
 module _ {K : Type 0} where

@@ -42,9 +42,9 @@ pub fn run(board: &mut Index<Item>, ready: Ready) -> Ran
 /// Takes a plan back that was carried out: each number has the key that it had, and the same links in whatever order, and
 /// the board is that of the old catalogue again. No memory, and no look-up.
 pub fn take_back(board: &mut Index<Item>, ran: Ran)
-    requires { (before : Graph Item) × TakesBack same.ghosts.eq before board.old ran }
+    requires { ∥ ((before : Graph Item) × TakesBack same.ghosts.eq before board.old ran) ∥₁ }
     ensures before { (before : Graph Item) → TakesBack same.ghosts.eq before board.old ran → (links : List (ℕ × ℕ)) → AreLinks before links → IsAsBefore before board.new links }
-    ensures board { (before : Graph Item) → TakesBack same.ghosts.eq before board.old ran → (c : List Item) → IsFullBoard before c → ∥ IsFullBoard board.new c ∥₁ }
+    ensures board { (before : Graph Item) → TakesBack same.ghosts.eq before board.old ran → (c : List Item) → IsFullBoard before c → IsFullBoard board.new c }
 {
     a_change_can_be_undone::<Item>();
     let Ran { out, keys, links } = ran;

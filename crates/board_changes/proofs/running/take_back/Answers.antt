@@ -3,14 +3,16 @@ use Rattle.item_index.specs.Undo.{IsAsBefore, changed}
 use Rattle.cat_items.specs.contracts.item.ItemPartialEq.TheImpl as same
 use Rattle.graph_changes.specs.Changes.{CanChange}
 use Rattle.board_steps.specs.Plans.{IsFullBoard}
-use Rattle.board_changes.proofs.Backward.{again, can_take_back, full_again}
+use Rattle.board_changes.proofs.Backward.{again, can_be_taken_back, full_again}
 use Rattle.board_changes.proofs.running.take_back.Goals as goal
 
 pub change-requires : goal.change-requires
 change-requires c =
     let ran = c.args.ran in
-    subst (λ (ns : List ℕ). CanChange same.ghosts.eq c.args.board.now ns ran.keys.items c.as_slice-2.result.now) (sym c.as_slice.ensures.value)
-    (subst (λ (ls : List (ℕ × ℕ)). CanChange same.ghosts.eq c.args.board.now ran.out.items ran.keys.items ls) (sym c.as_slice-2.ensures.value) (can_take_back same.ghosts.eq c.requires.0 c.args.board.now ran c.requires.1 c.a_change_can_be_undone.ensures))
+    let before = c.args.board.now in
+    subst (λ (ns : List ℕ). CanChange same.ghosts.eq before ns ran.keys.items c.as_slice-2.result.now) (sym c.as_slice.ensures.value)
+    (subst (λ (ls : List (ℕ × ℕ)). CanChange same.ghosts.eq before ran.out.items ran.keys.items ls) (sym c.as_slice-2.ensures.value)
+    (can_be_taken_back same.ghosts.eq before ran c.a_change_can_be_undone.ensures c.requires))
 
 pub returns-clause-before : goal.returns-clause-before
 returns-clause-before c =
@@ -24,4 +26,4 @@ returns-clause-board c =
     let ran = c.args.ran in
     let is = c.change.ensures ∙ ap (λ (ns : List ℕ). changed c.args.board.now ns ran.keys.items c.as_slice-2.result.now) c.as_slice.ensures.value
     ∙ ap (λ (ls : List (ℕ × ℕ)). changed c.args.board.now ran.out.items ran.keys.items ls) c.as_slice-2.ensures.value in
-    λ before takes held full. subst (λ g. ∥ IsFullBoard g held ∥₁) (sym is) (full_again same.ghosts.eq before c.args.board.now ran takes held full)
+    λ before takes held full. subst (λ g. IsFullBoard g held) (sym is) (full_again same.ghosts.eq before c.args.board.now ran takes held full)
