@@ -1,11 +1,16 @@
 -- Rights that are put in unless a node without a mark keeps them, and the suspects by these.
-use Rattle.std.proofs.Common.{◌≡◌, ◌⊎◌, ◌↔◌, inl, inr, ℕ, List, [], refl, sym, ◌∙◌, subst}
+use Rattle.std.proofs.Common.{length, ◌≤◌, Option, Some, None, ◌≡◌, ◌⊎◌, ◌↔◌, inl, inr, ℕ, List, [], refl, sym, ◌∙◌, subst}
 use Rattle.std.specs.List.{Contains}
 use Rattle.item_index.specs.Graphs.{Graph}
 use Rattle.cat_items.specs.declared.edit.Edit.{Edit}
 use Rattle.cat_items.specs.declared.item.Item.{Item}
 use Rattle.cat_items.specs.declared.item.Item.TheVariants as item
-use Rattle.cat_items.specs.Survivors.{IsSystemRight}
+use Rattle.cat_items.specs.declared.item.Right.{Right}
+use Rattle.cat_items.specs.Catalogues.{IsInOrder}
+use Rattle.cat_items.specs.Reach.{Has}
+use Rattle.cat_items.specs.Rights.{HasColumn}
+use Rattle.cat_items.specs.Survivors.{IsSystemRight, MayBeSystemRight, MayBeSystemSchema}
+use Rattle.finite_chains.specs.Chains.{IsWithin}
 use Rattle.edit_rules.specs.Chosen.{IsRightOrRoleGrant}
 use Rattle.edit_rules.proofs.ItemKeys.{only_granted}
 use Rattle.board_graph.specs.BoardKeys.{ghost_key}
@@ -14,7 +19,9 @@ use Rattle.topic_keys.specs.Lists.{Gets}
 use Rattle.topic_keys.proofs.Adding.{gets_alike, gets_both, gets_none}
 use Rattle.topic_lists.proofs.Runs.{gets_from_none}
 use Rattle.edit_suspects.specs.Seeds.{HaveSpread, of_changed, of_target}
+use Rattle.asked_parts.specs.Parts.{HasAsked, IsPartOf}
 use Rattle.asked_parts.specs.Under as under
+use Rattle.asked_parts.proofs.GrowthLaws.{no_longer, once}
 use Rattle.asked_parts.proofs.UnderLaws.{flipped}
 use Rattle.edit_parts.specs.Parts.{AreTouchedItems, IsPossibleSuspect, IsSuspectBy, IsUnlessKept}
 use Rattle.edit_parts.specs.Touched.{AreApart, IsTouchedItem, IsTouchedRight}
@@ -67,3 +74,46 @@ module _ (g : Graph Item) (edit : Edit) (marks : List ℕ) where
     λ h. elim ((gets x).0 h) [ inl i ↦ inl ((touched x).0 i) | inr r ↦ inr (subst (IsPossibleSuspect g marks part) (sym r.2.0) ((possible r.0).0 r.1, r.2.1, r.2.2)) ],
     λ h. (gets x).1 (elim h [ inl t ↦ inl ((touched x).1 t) | inr p ↦ inr (x, (possible x).1 p.0, (refl, p.1, p.2)) ]),
   )
+
+-- ---- what it costs
+
+-- what the system could grant for a list it could grant for each that has it all
+right_within : (part more : List Item) → IsWithin part more → (r : Right) → MayBeSystemRight part r → MayBeSystemRight more r
+right_within part more within r is = (is.0, column r.need.column is.1, by is.2.0 is.2.1 is.2.2)
+  where
+    column : (name : Option (List ℕ)) → HasColumn part r.need.on name → HasColumn more r.need.on name
+    column None h = tt
+    column (Some name) h = (h.0, within h.0 h.1, h.2)
+
+    by : (z : Item) → Contains part z → MayBeSystemSchema part r z → Has more (MayBeSystemSchema more r)
+    by (item.Schema z) inside at = (item.Schema z, within (item.Schema z) inside, (at.0, (at.1.0, within at.1.0 at.1.1, at.1.2)))
+    by _ inside at = absurd at
+
+possible_within : (part more : List Item) → IsWithin part more → (x : Item) → IsSystemRight part x → IsSystemRight more x
+possible_within part more within (item.Held r) is = right_within part more within r is
+possible_within part more within (item.Grantable r) is = right_within part more within r is
+possible_within part more within _ is = absurd is
+
+pub fewer_rights : (part more rights all : List Item) → IsWithin part more → IsInOrder rights → ((x : Item) → Contains rights x ↔ IsSystemRight part x) → ((x : Item) → IsSystemRight more x → Contains all x) → length rights ≤ length all
+fewer_rights part more rights all within order are has = no_longer rights all (once rights order) (λ x h. has x (possible_within part more within x ((are x).0 h)))
+
+module _ (g : Graph Item) (edit : Edit) (marks : List ℕ) (mine start : List Item) (mine_are : AreTouchedItems g marks edit mine) (are : AreTouchedItems g marks edit start) where
+  mine_in : (x : Item) → Contains mine x → Contains start x
+  mine_in x h = (are x).1 ((mine_are x).0 h)
+
+  in_mine : (x : Item) → Contains start x → Contains mine x
+  in_mine x h = (mine_are x).1 ((are x).0 h)
+
+  pub short_start : IsInOrder mine → length mine ≤ length start
+  short_start order = no_longer mine start (once mine order) mine_in
+
+  pub my_part : (c part : List Item) → IsPartOf g c marks start part → IsPartOf g c marks mine part
+  my_part c part is = record {
+    order = is.order;
+    has_suspects = λ x h. is.has_suspects x (mine_in x h);
+    from = λ x h. elim (is.from x h) [ inl there ↦ inl (in_mine x there) | inr kept ↦ inr kept ];
+    asked = λ x y t h kept ask under. is.asked x y t (mine_in x h) kept ask under;
+  }
+
+  pub my_keys : (part keys : List Item) → HasAsked part start keys → HasAsked part mine keys
+  my_keys part keys has k of = has k (of.0, mine_in of.0 of.1, of.2)

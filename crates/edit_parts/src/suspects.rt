@@ -1,7 +1,7 @@
 //! The suspects of an edit.
 
 ghost use Rattle.std.specs.Prelude.{◌≡◌, ◌↔◌, ◌⊎◌, ◌+◌, ◌*◌, ◌≤◌, List, IsTrue, IfOk, OnOk, length, true};
-ghost use Rattle.std.specs.List.{Contains};
+ghost use Rattle.std.specs.List.{Contains, sum_by};
 ghost use Rattle.item_index.specs.Graphs.{IsWhole};
 ghost use Rattle.graph_steps.specs.Steps.{AreNodes};
 ghost use Rattle.cat_items.specs.contracts.item.ItemPartialEq.TheImpl as same;
@@ -10,14 +10,16 @@ ghost use Rattle.cat_items.specs.declared.need.Auth.TheVariants as auth;
 ghost use Rattle.cat_items.specs.Catalogues.{IsInOrder};
 ghost use Rattle.cat_items.specs.Fit.{IsFit};
 ghost use Rattle.cat_items.specs.Good.{IsGood};
-ghost use Rattle.cat_items.specs.Survivors.{IsWithSystem};
+ghost use Rattle.cat_items.specs.Survivors.{IsSystemRight, IsWithSystem};
 ghost use Rattle.edit_rules.specs.Chosen.{IsRightOrRoleGrant};
 ghost use Rattle.board_graph.specs.BoardKeys as keys;
 ghost use Rattle.board_marks.specs.Marks.{IsMarked};
-ghost use Rattle.board_steps.specs.Plans.{IsFullBoard};
+ghost use Rattle.board_steps.specs.Plans.{HasNoHelper, IsFullBoard};
 ghost use Rattle.topic_keys.specs.Lists.{Gets};
 ghost use Rattle.edit_suspects.specs.Seeds.{HaveSpread};
 ghost use Rattle.edit_suspects.specs.Suspects.{AreFresh, is_suspect};
+ghost use Rattle.asked_parts.specs.Parts.{HasAsked, IsPartOf};
+ghost use Rattle.asked_parts.specs.Under.{look_ups};
 ghost use Rattle.edit_parts.specs.Parts as spec;
 ghost use Rattle.edit_parts.specs.Touched.{FitsBoard};
 
@@ -134,17 +136,20 @@ fn put_suspects<S: BuildHasher + Drop, L: Ledger>(
 /// Copies of the touched items and rights in one list.
 fn joined(alloc: Global, items: &Catalogue, rights: &Catalogue) -> Result<Catalogue, AllocError>
     requires { (x : Item) → Contains rights.now.items x → IsRightOrRoleGrant x }
-    ensures { IfOk result (λ all. (x : Item) → Contains all.items x ↔ (Contains items.now.items x ⊎ Contains rights.now.items x)) }
+    ensures order { IfOk result (λ all. IsInOrder all.items) }
+    ensures members { IfOk result (λ all. (x : Item) → Contains all.items x ↔ (Contains items.now.items x ⊎ Contains rights.now.items x)) }
 {
     let mut all = Catalogue::of_sorted(Vec::new(alloc));
     put_all(items.items(), &mut all)?;
     put_all(rights.items(), &mut all)?;
+    let _ = all.items();
     Ok(all)
 }
 
 /// The suspects of an edit: the items that it touches and leaves or adds, and of the rights that the system could grant for the edited
-/// list those that are touched, or could not be granted before. It finds them over the part that the touched items ask for. `Err` is want
-/// of memory.
+/// list those that are touched, or could not be granted before. It finds them over the part that the touched items ask for: it looks up the
+/// key of each marked number, what `part_of` does, and of each right that the system could grant for the part its node and its ghost's.
+/// `Err` is want of memory.
 pub fn suspects_of<S: BuildHasher + Drop, L: Ledger>(
     alloc: Global,
     board: &Index<Item, S>,
@@ -155,8 +160,10 @@ pub fn suspects_of<S: BuildHasher + Drop, L: Ledger>(
     requires nodes { AreNodes board.now marks.now.keys }
     requires fits { FitsBoard board.now edit.now }
     requires spread { HaveSpread board.now edit.now marks.now.keys }
-    ensures { IfOk result (λ suspects. (c edited f fresh : List Item) → IsGood c → IsWhole same.ghosts.eq board.now → IsFullBoard board.now c → IsFit c edit.now edited → IsWithSystem edited f → AreFresh c edited fresh
+    ensures suspects { IfOk result (λ suspects. (c edited f fresh : List Item) → IsGood c → IsWhole same.ghosts.eq board.now → IsFullBoard board.now c → IsFit c edit.now edited → IsWithSystem edited f → AreFresh c edited fresh
         → (x : Item) → Contains suspects.items x ↔ (Contains f x × (is_suspect board.now marks.now.keys edit.now.added fresh x ≡ true))) }
+    ensures ticks { (c start part keys rights : List Item) → HasNoHelper c → IsFullBoard board.now c → spec.AreTouchedItems board.now marks.now.keys edit.now start → IsPartOf board.now c marks.now.keys start part → HasAsked part start keys
+        → ((x : Item) → IsSystemRight part x → Contains rights x) → steps.new ≤ steps.old + (length marks.now.keys + (length start + (sum_by (look_ups board.now) keys + 2 * length rights))) }
 {
     let TouchedItems { mut items, rights } = touched_items(alloc, board, marks, edit, steps)?;
     let start = joined(alloc, &items, &rights)?;
