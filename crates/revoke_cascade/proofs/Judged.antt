@@ -1,5 +1,5 @@
 -- What is found of an edit's part stands in the new catalogue, and makes a plan for its board.
-use Rattle.std.proofs.Common.{◌≡◌, ◌⊎◌, ◌↔◌, inl, inr, ℕ, Bool, true, false, not, ◌||◌, List, sym, subst}
+use Rattle.std.proofs.Common.{◌≡◌, ◌⊎◌, inl, inr, ℕ, Bool, false, not, ◌||◌, List, subst}
 use Rattle.std.specs.Prelude.{Decides}
 use Rattle.std.specs.List.{Contains, filter}
 use Rattle.std.specs.Ordering.{is_eq}

@@ -1,10 +1,8 @@
 -- What is known of an edit on a board: its suspects.
-use Rattle.std.proofs.Common.{◌≡◌, ◌⊎◌, ◌↔◌, inl, inr, ℕ, Bool, true, false, not, ◌&&◌, List, sym, ap, subst, refl, ◌∙◌}
-use Rattle.std.specs.Prelude.{Decides}
+use Rattle.std.proofs.Common.{◌≡◌, ◌↔◌, inl, inr, ℕ, Bool, true, false, not, ◌&&◌, List, sym, ap, subst, ◌∙◌}
 use Rattle.std.specs.List.{Contains, filter}
 use Rattle.std.specs.Ordering.{is_eq}
 use Rattle.std.specs.Cmp.{Equal-is}
-use Rattle.std.specs.declared.cmp.Ordering.TheVariants.{Equal}
 use Rattle.std.proofs.lemmas.Bool.{and_from, and_parts, both_ways, false_from_ne_true, not-true}
 use Rattle.std.proofs.lemmas.Bool.Decides.{Decides-not}
 use Rattle.finite_chains.proofs.Members.{Contains-filter, filter_passes_one}
@@ -23,7 +21,6 @@ use Rattle.cat_items.proofs.OrderLemmas.{same_order}
 use Rattle.support_laws.proofs.Decisions.{system_right}
 use Rattle.cascade_laws.specs.Spreading.{IsSpread}
 use Rattle.edit_laws.proofs.EditedLists.{one_by_key}
-use Rattle.edit_rules.specs.Chosen.{AreChosen}
 use Rattle.board_graph.specs.BoardKeys.{IsHelper, IsKeyOf, of_item, of_possible}
 use Rattle.board_graph.proofs.Keys.{topic_is_helper}
 use Rattle.edit_suspects.specs.Seeds.{AreTouched, HaveSpread}

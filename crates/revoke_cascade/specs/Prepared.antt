@@ -5,15 +5,19 @@ use Rattle.item_index.specs.Graphs.{Graph, IsWhole}
 use Rattle.cat_items.specs.declared.edit.Edit.{Edit}
 use Rattle.cat_items.specs.declared.item.Item.{Item}
 use Rattle.cat_items.specs.contracts.item.ItemPartialEq.TheImpl as same
+use Rattle.cat_items.specs.Edits.{IsNew}
 use Rattle.cat_items.specs.Fit.{IsFit}
 use Rattle.cat_items.specs.Good.{IsGood}
 use Rattle.cat_items.specs.Survivors.{IsWithSystem}
+use Rattle.role_graph.specs.Marked.{marked}
 use Rattle.edit_rules.specs.Chosen.{AreChosen}
 use Rattle.board_steps.specs.Plans.{IsFullBoard}
 use Rattle.edit_suspects.specs.Seeds.{AreTouched}
 use Rattle.edit_suspects.specs.Suspects.{AreFresh, is_suspect}
 use Rattle.asked_parts.specs.Parts.{IsPartOf}
 use Rattle.part_rescue.specs.Rescued.{AreRescued}
+use Rattle.board_plans.specs.declared.plan.Plan.{Plan}
+use Rattle.board_changes.specs.Readiness.{IsPlanned}
 
 -- The board is that of a good catalogue that the edit fits, and f is what the edit makes of it, with the rights that the system could grant.
 pub record IsEditOn (g : Graph Item) (c edited f : List Item) (edit : Edit) : Type 0 where
@@ -36,6 +40,31 @@ pub record AreJudged (g : Graph Item) (c edited f : List Item) (edit : Edit) (ma
   pub part_is : IsPartOf g c marks suspects part
   pub rescued : AreRescued suspects part rescue
 
+-- On the board of a good catalogue that the edit fits, this is the new catalogue.
+pub record IsMade (g : Graph Item) (c edited new : List Item) (edit : Edit) : Type 0 where
+  pub good : IsGood c
+  pub whole : IsWhole same.ghosts.eq g
+  pub full : IsFullBoard g c
+  pub fit : IsFit c edit edited
+  pub new_is : IsNew c edit new
+
+-- the board is that of a good catalogue, of which the edit makes a new one
+abbrev pub IsMadeOf : Graph Item → Edit → Type 0
+IsMadeOf g edit = (c edited new : List Item) × IsMade g c edited new edit
+
+-- what is rescued of the part
+abbrev pub IsFoundIn : List Item → List Item → List Item → Type 0
+IsFoundIn part suspects found = (rescue : List Bool) × AreRescued suspects part rescue × (found ≡ marked part rescue)
+
+-- by some part that is judged, these are the suspects, and what of them was rescued
+abbrev pub IsJudgement : Graph Item → List Item → List Item → List Item → Edit → List ℕ → List Item → List Item → List Item → Type 0
+IsJudgement g c edited f edit marks fresh suspects found = (part : List Item) × (rescue : List Bool) × AreJudged g c edited f edit marks fresh suspects part rescue × (found ≡ marked part rescue)
+
 -- The new catalogue has what was found, and of the old one what the edit leaves and what is no suspect.
 abbrev pub IsFoundOf : List Item → Edit → List Item → List Item → List Item → Type 0
 IsFoundOf c edit suspects found new = (x : Item) → Contains new x ↔ (Contains found x ⊎ (Contains c x × (¬ (Contains edit.target x)) × (¬ (Contains edit.changed x)) × (¬ (Contains suspects x))))
+
+-- The plan makes the board of the new catalogue, which has what was found.
+pub record IsOutcome (g : Graph Item) (c : List Item) (edit : Edit) (new : List Item) (plan : Plan) (suspects found : List Item) : Type 0 where
+  pub planned : (suspect : Item → Bool) × IsPlanned same.ghosts.eq g c new suspect plan
+  pub has : IsFoundOf c edit suspects found new

@@ -1,8 +1,11 @@
 //! The cascade of an edit on the board of its catalogue.
 #![tactic(auto)]
 
+mod cascade;
+mod judging;
 mod laws;
 
+pub use cascade::{Cascade, prepare};
 pub use laws::{
     fresh_rights_can_be_listed, suspects_are_apart_from_what_is_kept, touched_numbers_are_nodes,
     what_a_cascade_finds_stands, what_is_prepared_can_be_planned,
