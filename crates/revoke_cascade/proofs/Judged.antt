@@ -124,6 +124,9 @@ module _ (g : Graph Item) (c edited f : List Item) (edit : Edit) (marks : List �
 
   -- ---- the new catalogue
 
+  pub makes_new : (new : List Item) × IsNew c edit new
+  makes_new = (standing, is_new c edited f edit suspect judged.known.on.good judged.known.on.fit judged.known.on.with_system is_spread g marks suspects part standing rescue told judged.part_is judged.rescued is_standing order)
+
   module _ (new : List Item) (is : IsNew c edit new) where
     this_one : standing ≡ new
     this_one = one_new c edit standing new (is_new c edited f edit suspect judged.known.on.good judged.known.on.fit judged.known.on.with_system is_spread g marks suspects part standing rescue told judged.part_is judged.rescued is_standing order) is

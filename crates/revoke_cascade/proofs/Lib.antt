@@ -1,3 +1,4 @@
 pub mod Known
+pub mod Rights
 pub mod Judged
 pub mod Making

@@ -12,14 +12,12 @@ use Rattle.cat_items.specs.Fit.{IsFit}
 use Rattle.cat_items.specs.Good.{IsGood}
 use Rattle.cat_items.specs.Survivors.{IsWithSystem}
 use Rattle.cat_items.specs.Supported.{Supported}
-use Rattle.support_laws.proofs.Settled.{one_edited}
 use Rattle.part_rounds.specs.Grown.{Grows}
 use Rattle.part_rounds.specs.Grown as on
 use Rattle.board_steps.specs.Plans.{HasNoHelper, IsFullBoard}
 use Rattle.board_steps.proofs.Edited.{good_apart}
 use Rattle.edit_suspects.specs.Seeds.{AreTouched}
 use Rattle.edit_suspects.specs.Suspects.{AreFresh, is_suspect}
-use Rattle.edit_parts.specs.Touched.{FitsBoard}
 use Rattle.asked_parts.specs.Under.{AreApart}
 use Rattle.asked_parts.specs.Parts.{IsPartOf}
 use Rattle.part_rescue.specs.Rescued.{AreRescued}
@@ -31,9 +29,10 @@ use Rattle.graph_changes.specs.Ends.{links_of}
 use Rattle.edit_rules.specs.Chosen.{AreChosen}
 use Rattle.edit_arrivals.specs.Suspects.{IsFoundBy}
 use Rattle.finite_chains.specs.Chains.{IsWithin}
-use Rattle.revoke_cascade.specs.Prepared.{AreKnown, IsEditOn, IsFoundIn, IsFoundOf, IsJudgement, IsMade, IsMadeOf, IsOutcome}
+use Rattle.revoke_cascade.specs.Prepared.{AreKnown, IsEditOn, IsFoundIn, IsFoundOf, IsJudgement, IsFitOn, FitsSome, IsOutcome}
 use Rattle.revoke_cascade.proofs.Known.{are_apart, fresh_rights}
-use Rattle.revoke_cascade.proofs.Judged.{can_plan, found_by, found_of, is_planned}
+use Rattle.revoke_cascade.proofs.Judged.{can_plan, found_by, found_of, is_planned, makes_new}
+use Rattle.revoke_cascade.proofs.Rights.{with_system}
 
 -- ---- marks
 
@@ -44,23 +43,13 @@ size_kept sup xs first m (on.more m1 at grown low off is) = length-set m1 at tru
 pub rescued_size : (suspects part : List Item) (rescue : List Bool) → AreRescued suspects part rescue → length rescue ≡ length part
 rescued_size suspects part rescue are = size_kept (Supported part) part are.first rescue are.grown ∙ are.clear.size
 
--- ---- an edit that makes a new catalogue
+-- ---- an edit on the board of its catalogue
 
-pub made_fits : (g : Graph Item) (edit : Edit) → IsMadeOf g edit → FitsBoard g edit
-made_fits g edit made = (made.0, made.1, made.3.good, made.3.full, made.3.fit)
-
--- all lists of an edit that makes a new catalogue
-pub made_on : (g : Graph Item) (c edited new : List Item) (edit : Edit) → IsMade g c edited new edit → (f : List Item) × IsEditOn g c edited f edit
-made_on g c edited new edit made = (
-  made.new_is.all,
-  record {
-    good = made.good;
-    whole = made.whole;
-    full = made.full;
-    fit = made.fit;
-    with_system = subst (λ l. IsWithSystem l made.new_is.all) (one_edited c edit made.new_is.edited edited made.new_is.is_edited made.fit.is_edited) made.new_is.with_system;
-  },
-)
+-- all lists of an edit that fits
+pub fit_on : (g : Graph Item) (c edited : List Item) (edit : Edit) → IsFitOn g c edited edit → (f : List Item) × IsEditOn g c edited f edit
+fit_on g c edited edit fits =
+    let all = with_system edited fits.fit.is_edited.order in
+    (all.0, record { good = fits.good; whole = fits.whole; full = fits.full; fit = fits.fit; with_system = all.1 })
 
 -- what a list of suspects is to be
 abbrev pub ListsSuspects : Graph Item → Edit → List ℕ → List Item → Type 0
@@ -75,15 +64,15 @@ pub known_of : (g : Graph Item) (edit : Edit) (marks : List ℕ) (suspects : Lis
     → (c edited f fresh : List Item) → IsEditOn g c edited f edit → AreFresh c edited fresh → AreKnown g c edited f edit marks fresh suspects
 known_of g edit marks suspects touched order lists c edited f fresh on are_fresh = record { on = on; touched = touched; are_fresh = are_fresh; listed = record { order = order; members = lists c edited f fresh on are_fresh } }
 
-pub made_apart : (g : Graph Item) (edit : Edit) (marks : List ℕ) (suspects : List Item) → IsMadeOf g edit → AreTouched same.ghosts.eq g edit marks → IsInOrder suspects → ListsSuspects g edit marks suspects → AreApart g marks suspects
-made_apart g edit marks suspects made touched order lists =
-    let all = made_on g made.0 made.1 made.2 edit made.3 in
-    let fresh = fresh_rights g made.0 made.1 all.0 edit all.1 in
-    are_apart g made.0 made.1 all.0 edit marks fresh.0 suspects (known_of g edit marks suspects touched order lists made.0 made.1 all.0 fresh.0 all.1 fresh.1)
+pub fits_apart : (g : Graph Item) (edit : Edit) (marks : List ℕ) (suspects : List Item) → FitsSome g edit → AreTouched same.ghosts.eq g edit marks → IsInOrder suspects → ListsSuspects g edit marks suspects → AreApart g marks suspects
+fits_apart g edit marks suspects fits touched order lists =
+    let all = fit_on g fits.0 fits.1 edit fits.2 in
+    let fresh = fresh_rights g fits.0 fits.1 all.0 edit all.1 in
+    are_apart g fits.0 fits.1 all.0 edit marks fresh.0 suspects (known_of g edit marks suspects touched order lists fits.0 fits.1 all.0 fresh.0 all.1 fresh.1)
 
 -- the part has the suspects
-pub made_within : (g : Graph Item) (edit : Edit) (marks : List ℕ) (suspects part : List Item) → IsMadeOf g edit → ((c : List Item) → HasNoHelper c → IsFullBoard g c → IsPartOf g c marks suspects part) → IsWithin suspects part
-made_within g edit marks suspects part made is = (is made.0 (good_apart made.0 made.3.good) made.3.full).has_suspects
+pub fits_within : (g : Graph Item) (edit : Edit) (marks : List ℕ) (suspects part : List Item) → FitsSome g edit → ((c : List Item) → HasNoHelper c → IsFullBoard g c → IsPartOf g c marks suspects part) → IsWithin suspects part
+fits_within g edit marks suspects part fits is = (is fits.0 (good_apart fits.0 fits.2.good) fits.2.full).has_suspects
 
 pub judgement : (g : Graph Item) (edit : Edit) (marks : List ℕ) (suspects part found : List Item) → AreTouched same.ghosts.eq g edit marks → IsInOrder suspects → ListsSuspects g edit marks suspects
     → ((c : List Item) → HasNoHelper c → IsFullBoard g c → IsPartOf g c marks suspects part) → IsFoundIn part suspects found
@@ -107,23 +96,28 @@ abbrev pub Plans : Graph Item → List ℕ → List Arrival → Plan → Type 0
 Plans g marks arrivals plan = (c new : List Item) (suspect : Item → Bool) → CanPlan same.ghosts.eq g c new suspect marks arrivals → IsPlanOf g c new suspect plan.out.items plan.keys.items (links_of g plan.out.items plan.keys.items plan.links.items)
 
 pub outcome : (g : Graph Item) (edit : Edit) (marks : List ℕ) (suspects found : List Item) (arrivals : List Arrival) (plan : Plan) → Judges g edit marks suspects found → Arrive found suspects arrivals → Plans g marks arrivals plan
-    → (c edited new : List Item) → IsMade g c edited new edit → IsOutcome g c edit new plan suspects found
-outcome g edit marks suspects found arrivals plan judges arrive plans c edited new made =
-    let all = made_on g c edited new edit made in
+    → (c edited : List Item) → IsFitOn g c edited edit → (new : List Item) × IsOutcome g c edit new plan suspects found
+outcome g edit marks suspects found arrivals plan judges arrive plans c edited fits =
+    let all = fit_on g c edited edit fits in
     let f = all.0 in
     let fresh = fresh_rights g c edited f edit all.1 in
     let is = judges c edited f fresh.0 all.1 fresh.1 in
     let suspect = is_suspect g marks edit.added fresh.0 in
+    let to = makes_new g c edited f edit marks fresh.0 suspects is.0 is.1 is.2 in
+    let new = to.0 in
     let by : IsFoundBy c is.2.known.on.good.all edited f edit suspect is.0 found new =
-    subst (λ l. IsFoundBy c is.2.known.on.good.all edited f edit suspect is.0 l new) (sym is.3) (found_by g c edited f edit marks fresh.0 suspects is.0 is.1 is.2 new made.new_is) in
+    subst (λ l. IsFoundBy c is.2.known.on.good.all edited f edit suspect is.0 l new) (sym is.3) (found_by g c edited f edit marks fresh.0 suspects is.0 is.1 is.2 new to.1) in
     let are = arrive c is.2.known.on.good.all edited f is.0 new edit suspect by is.2.known.listed in
-    let can = can_plan g c edited f edit marks fresh.0 suspects is.0 is.1 is.2 new made.new_is arrivals are in
-    record {
-      planned = (suspect, is_planned g c new suspect marks arrivals plan can (plans c new suspect can));
-      has = subst (λ l. IsFoundOf c edit suspects l new) (sym is.3) (found_of g c edited f edit marks fresh.0 suspects is.0 is.1 is.2 new made.new_is);
-    }
+    let can = can_plan g c edited f edit marks fresh.0 suspects is.0 is.1 is.2 new to.1 arrivals are in (
+      new,
+      record {
+        made = to.1;
+        planned = (suspect, is_planned g c new suspect marks arrivals plan can (plans c new suspect can));
+        has = subst (λ l. IsFoundOf c edit suspects l new) (sym is.3) (found_of g c edited f edit marks fresh.0 suspects is.0 is.1 is.2 new to.1);
+      },
+    )
 
 -- the same, of arrivals that are lent
 pub outcome_lent : (g : Graph Item) (edit : Edit) (marks : List ℕ) (suspects found : List Item) (lent arrivals : List Arrival) (plan : Plan) → lent ≡ arrivals → Judges g edit marks suspects found → Arrive found suspects arrivals → Plans g marks lent plan
-    → (c edited new : List Item) → IsMade g c edited new edit → IsOutcome g c edit new plan suspects found
+    → (c edited : List Item) → IsFitOn g c edited edit → (new : List Item) × IsOutcome g c edit new plan suspects found
 outcome_lent g edit marks suspects found lent arrivals plan value judges arrive plans = outcome g edit marks suspects found arrivals plan judges arrive (subst (λ l. Plans g marks l plan) value plans)

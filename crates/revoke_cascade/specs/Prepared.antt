@@ -40,17 +40,15 @@ pub record AreJudged (g : Graph Item) (c edited f : List Item) (edit : Edit) (ma
   pub part_is : IsPartOf g c marks suspects part
   pub rescued : AreRescued suspects part rescue
 
--- On the board of a good catalogue that the edit fits, this is the new catalogue.
-pub record IsMade (g : Graph Item) (c edited new : List Item) (edit : Edit) : Type 0 where
+-- the board is that of a good catalogue, which the edit fits
+pub record IsFitOn (g : Graph Item) (c edited : List Item) (edit : Edit) : Type 0 where
   pub good : IsGood c
   pub whole : IsWhole same.ghosts.eq g
   pub full : IsFullBoard g c
   pub fit : IsFit c edit edited
-  pub new_is : IsNew c edit new
 
--- the board is that of a good catalogue, of which the edit makes a new one
-abbrev pub IsMadeOf : Graph Item → Edit → Type 0
-IsMadeOf g edit = (c edited new : List Item) × IsMade g c edited new edit
+abbrev pub FitsSome : Graph Item → Edit → Type 0
+FitsSome g edit = (c edited : List Item) × IsFitOn g c edited edit
 
 -- what is rescued of the part
 abbrev pub IsFoundIn : List Item → List Item → List Item → Type 0
@@ -64,7 +62,8 @@ IsJudgement g c edited f edit marks fresh suspects found = (part : List Item) ×
 abbrev pub IsFoundOf : List Item → Edit → List Item → List Item → List Item → Type 0
 IsFoundOf c edit suspects found new = (x : Item) → Contains new x ↔ (Contains found x ⊎ (Contains c x × (¬ (Contains edit.target x)) × (¬ (Contains edit.changed x)) × (¬ (Contains suspects x))))
 
--- The plan makes the board of the new catalogue, which has what was found.
+-- The edit makes a new catalogue, which has what was found, and the plan makes its board.
 pub record IsOutcome (g : Graph Item) (c : List Item) (edit : Edit) (new : List Item) (plan : Plan) (suspects found : List Item) : Type 0 where
+  pub made : IsNew c edit new
   pub planned : (suspect : Item → Bool) × IsPlanned same.ghosts.eq g c new suspect plan
   pub has : IsFoundOf c edit suspects found new

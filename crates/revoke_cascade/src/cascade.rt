@@ -1,13 +1,13 @@
 //! An edit is made ready: what it touches, what stands, and the plan for its board.
 
-ghost use Rattle.std.specs.Prelude.{◌≡◌, List, Bool, IfOk, length};
+ghost use Rattle.std.specs.Prelude.{◌≡◌, List, IfOk, length};
 ghost use Rattle.std.specs.List.{All};
 ghost use Rattle.item_index.specs.Graphs.{with_spare};
 ghost use Rattle.graph_changes.specs.Ends.{ArePlaced};
 ghost use Rattle.cat_items.specs.contracts.item.ItemPartialEq.TheImpl as same;
 ghost use Rattle.cat_items.specs.declared.item.Item.{Item};
-ghost use Rattle.board_changes.specs.Readiness.{IsPlanned, IsReady};
-ghost use Rattle.revoke_cascade.specs.Prepared.{IsFoundOf, IsMade, IsMadeOf, IsOutcome};
+ghost use Rattle.board_changes.specs.Readiness.{IsReady};
+ghost use Rattle.revoke_cascade.specs.Prepared.{FitsSome, IsFitOn, IsOutcome};
 
 use crate::judging::{Judged, judge};
 use board_changes::{Ready, make_ready};
@@ -34,8 +34,8 @@ fn make_plan<L: Ledger>(
     edit: &Edit,
     steps: &mut Steps<L>,
 ) -> Result<Planned, AllocError>
-    requires { IsMadeOf board.now edit.now }
-    ensures outcome { IfOk result (λ planned. (c edited new : List Item) → IsMade board.now c edited new edit.now → IsOutcome board.now c edit.now new planned.plan planned.suspects.items planned.found.items) }
+    requires { FitsSome board.now edit.now }
+    ensures outcome { IfOk result (λ planned. (c edited : List Item) → IsFitOn board.now c edited edit.now → (new : List Item) × IsOutcome board.now c edit.now new planned.plan planned.suspects.items planned.found.items) }
     ensures placed { IfOk result (λ planned. All (ArePlaced (length planned.plan.keys.items)) planned.plan.links.items) }
 {
     let marks = touched(alloc, board, edit, steps)?;
@@ -67,11 +67,10 @@ pub fn prepare<L: Ledger>(
     edit: &Edit,
     steps: &mut Steps<L>,
 ) -> Result<Cascade, AllocError>
-    requires { IsMadeOf board.old edit.now }
+    requires { FitsSome board.old edit.now }
     ensures board { board.new ≡ with_spare board.old board.new.spare_keys board.new.spare_links }
     ensures ready { IfOk result (λ cascade. IsReady same.ghosts.eq board.new cascade.ready) }
-    ensures planned { IfOk result (λ cascade. (c edited new : List Item) → IsMade board.old c edited new edit.now → (suspect : Item → Bool) × IsPlanned same.ghosts.eq board.new c new suspect cascade.ready.plan) }
-    ensures found { IfOk result (λ cascade. (c edited new : List Item) → IsMade board.old c edited new edit.now → IsFoundOf c edit.now cascade.suspects.items cascade.found.items new) }
+    ensures outcome { IfOk result (λ cascade. (c edited : List Item) → IsFitOn board.old c edited edit.now → (new : List Item) × IsOutcome board.new c edit.now new cascade.ready.plan cascade.suspects.items cascade.found.items) }
 {
     let Planned {
         plan,

@@ -6,7 +6,7 @@ ghost use Rattle.cat_items.specs.contracts.item.ItemPartialEq.TheImpl as same;
 ghost use Rattle.cat_items.specs.declared.item.Item.{Item};
 ghost use Rattle.edit_suspects.specs.Seeds.{AreTouched, HaveSpread};
 ghost use Rattle.edit_suspects.specs.Suspects.{AreFresh};
-ghost use Rattle.revoke_cascade.specs.Prepared.{IsEditOn, IsFoundIn, IsJudgement, IsMadeOf};
+ghost use Rattle.revoke_cascade.specs.Prepared.{IsEditOn, IsFoundIn, IsJudgement, FitsSome};
 
 use asked_parts::part_of;
 use cat_items::{Catalogue, Edit, Item};
@@ -44,7 +44,7 @@ pub(crate) fn judge<L: Ledger>(
     edit: &Edit,
     steps: &mut Steps<L>,
 ) -> Result<Judged, AllocError>
-    requires made { IsMadeOf board.now edit.now }
+    requires fits { FitsSome board.now edit.now }
     requires touched { AreTouched same.ghosts.eq board.now edit.now marks.now.keys }
     requires spread { HaveSpread board.now edit.now marks.now.keys }
     ensures { IfOk result (λ judged. (c edited f fresh : List Item) → IsEditOn board.now c edited f edit.now → AreFresh c edited fresh

@@ -7,7 +7,9 @@ ghost use Rattle.graph_changes.specs.Ends.{links_of};
 ghost use Rattle.cat_items.specs.contracts.item.ItemPartialEq.TheImpl as same;
 ghost use Rattle.cat_items.specs.declared.edit.Edit.{Edit};
 ghost use Rattle.cat_items.specs.declared.item.Item.{Item};
+ghost use Rattle.cat_items.specs.Catalogues.{IsInOrder};
 ghost use Rattle.cat_items.specs.Edits.{IsNew};
+ghost use Rattle.cat_items.specs.Survivors.{IsWithSystem};
 ghost use Rattle.role_graph.specs.Marked.{marked};
 ghost use Rattle.asked_parts.specs.Under.{AreApart};
 ghost use Rattle.board_steps.specs.Plans.{IsPlanOf};
@@ -31,18 +33,24 @@ pub fn fresh_rights_can_be_listed()
     ensures { (g : Graph Item) (c edited f : List Item) (edit : Edit) → IsEditOn g c edited f edit → (fresh : List Item) × AreFresh c edited fresh }
 {}
 
+/// A list in order can be listed with the rights that the system could grant for it.
+pub fn what_the_system_could_grant_can_be_listed()
+    ensures { (c : List Item) → IsInOrder c → (all : List Item) × IsWithSystem c all }
+{}
+
 /// No suspect has the place of an item that keeps its number, in the order of items.
 pub fn suspects_are_apart_from_what_is_kept()
     ensures { (g : Graph Item) (c edited f : List Item) (edit : Edit) (marks : List ℕ) (fresh suspects : List Item) → AreKnown g c edited f edit marks fresh suspects → AreApart g marks suspects }
 {}
 
 /// What is rescued of the part is all that rounds over it have to find for the new catalogue (`by`): that has what was
-/// found, and of the old catalogue what the edit leaves and what is no suspect (`members`).
+/// found, and of the old catalogue what the edit leaves and what is no suspect (`members`). There is such a catalogue (`new`).
 pub fn what_a_cascade_finds_stands()
     ensures by { (g : Graph Item) (c edited f : List Item) (edit : Edit) (marks : List ℕ) (fresh suspects part : List Item) (rescue : List Bool) (judged : AreJudged g c edited f edit marks fresh suspects part rescue)
         → (new : List Item) → IsNew c edit new → IsFoundBy c judged.known.on.good.all edited f edit (is_suspect g marks edit.added fresh) part (marked part rescue) new }
     ensures members { (g : Graph Item) (c edited f : List Item) (edit : Edit) (marks : List ℕ) (fresh suspects part : List Item) (rescue : List Bool) → AreJudged g c edited f edit marks fresh suspects part rescue
         → (new : List Item) → IsNew c edit new → IsFoundOf c edit suspects (marked part rescue) new }
+    ensures new { (g : Graph Item) (c edited f : List Item) (edit : Edit) (marks : List ℕ) (fresh suspects part : List Item) (rescue : List Bool) → AreJudged g c edited f edit marks fresh suspects part rescue → (new : List Item) × IsNew c edit new }
 {}
 
 /// With what arrives for the suspects of the new catalogue, a plan for what is touched can be made (`can`), and carries the

@@ -9,4 +9,5 @@ pub use cascade::{Cascade, prepare};
 pub use laws::{
     fresh_rights_can_be_listed, suspects_are_apart_from_what_is_kept, touched_numbers_are_nodes,
     what_a_cascade_finds_stands, what_is_prepared_can_be_planned,
+    what_the_system_could_grant_can_be_listed,
 };

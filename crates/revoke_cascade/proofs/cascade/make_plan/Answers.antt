@@ -3,7 +3,7 @@ use Rattle.revoke_cascade.proofs.Making.{outcome_lent}
 use Rattle.revoke_cascade.proofs.cascade.make_plan.Goals as goal
 
 pub plan_of-requires : goal.plan_of-requires
-plan_of-requires g c = touched_are_nodes c.args.board.now c.args.edit.now c.in_ok-marks.marks.keys c.requires.3.whole c.in_ok-marks.ensures.touched
+plan_of-requires g c = touched_are_nodes c.args.board.now c.args.edit.now c.in_ok-marks.marks.keys c.requires.2.whole c.in_ok-marks.ensures.touched
 
 pub returns-clause-outcome : goal.returns-clause-outcome
 returns-clause-outcome g c =
