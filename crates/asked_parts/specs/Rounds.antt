@@ -1,5 +1,5 @@
 -- How far a part has come, by the board alone.
-use Rattle.std.specs.Prelude.{◌≡◌, ◌⊎◌, ℕ, List, Option, Some, None}
+use Rattle.std.specs.Prelude.{◌≡◌, ◌↔◌, ◌⊎◌, ℕ, List, Option, Some, None}
 use Rattle.std.specs.List.{Contains}
 use Rattle.finite_chains.specs.Chains.{IsWithin}
 use Rattle.item_index.specs.Graphs.{Graph}
@@ -44,3 +44,13 @@ pub record IsUnderWay (g : Graph Item) (marks : List ℕ) (suspects part asked :
 -- the part is within each that is closed
 abbrev pub IsLeast : Graph Item → List ℕ → List Item → List Item → Type 0
 IsLeast g marks suspects part = (p : List Item) → IsClosed g marks suspects p → IsWithin part p
+
+-- Nothing is left to be asked for: the part has all that its suspects ask for, and nothing else.
+pub record HasAskedAll (g : Graph Item) (marks : List ℕ) (suspects part asked : List Item) : Type 0 where
+  pub way : IsUnderWay g marks suspects part asked
+  pub closed : IsClosed g marks suspects part
+  pub least : IsLeast g marks suspects part
+
+-- Nothing was left to be asked for by those of the suspects that are not among these further ones.
+abbrev pub WasAsked : Graph Item → List ℕ → List Item → List Item → List Item → List Item → Type 0
+WasAsked g marks suspects more part asked = (before : List Item) × HasAskedAll g marks before part asked × ((x : Item) → Contains suspects x ↔ (Contains before x ⊎ Contains more x))

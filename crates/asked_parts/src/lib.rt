@@ -9,5 +9,5 @@ mod rounds;
 mod under;
 
 pub use helpers::is_helper;
-pub use rounds::part_of;
+pub use rounds::{Asked, ask_more, part_of};
 pub use under::items_under;

@@ -6,7 +6,7 @@ ghost use Rattle.finite_chains.specs.Chains.{IsWithin};
 ghost use Rattle.cat_items.specs.declared.item.Item.{Item};
 ghost use Rattle.board_steps.specs.Plans.{HasNoHelper, IsFullBoard};
 ghost use Rattle.asked_parts.specs.Parts.{HasAsked, IsPartOf};
-ghost use Rattle.asked_parts.specs.Rounds.{IsClosed, IsLeast, IsUnderWay};
+ghost use Rattle.asked_parts.specs.Rounds.{HasAskedAll, IsClosed, IsLeast, IsUnderWay, WasAsked};
 ghost use Rattle.asked_parts.specs.Under.{AreApart, look_ups};
 
 use crate::asking::asked_by;
@@ -48,24 +48,66 @@ fn round<S: BuildHasher + Drop, L: Ledger>(
     put_copies(part, found.items())
 }
 
+/// Puts in more suspects, and all that the suspects ask for and that wasn't asked for yet: `suspects` are all of them. It looks up what the
+/// option of each further one adds to, and once each key that wasn't asked for, with what its node rests on. `Err` is want of memory.
+pub fn ask_more<S: BuildHasher + Drop, L: Ledger>(
+    alloc: Global,
+    board: &Index<Item, S>,
+    marks: &IndexSet<usize>,
+    suspects: &Catalogue,
+    more: &Catalogue,
+    part: &mut Catalogue,
+    asked: &mut Catalogue,
+    steps: &mut Steps<L>,
+) -> Result<(), AllocError>
+    requires apart { AreApart board.now marks.now.keys suspects.now.items }
+    requires before { WasAsked board.now marks.now.keys suspects.now.items more.now.items part.old.items asked.old.items }
+    ensures asked { OnOk result (HasAskedAll board.now marks.now.keys suspects.now.items part.new.items asked.new.items) }
+    ensures part { (c : List Item) → HasNoHelper c → IsFullBoard board.now c → OnOk result (IsPartOf board.now c marks.now.keys suspects.now.items part.new.items) }
+    ensures spent { OnOk result (steps.new + sum_by (look_ups board.now) asked.old.items ≤ steps.old + (length more.now.items + sum_by (look_ups board.now) asked.new.items)) }
+    ensures ticks { (p keys : List Item) → IsClosed board.now marks.now.keys suspects.now.items p → HasAsked p suspects.now.items keys
+        → steps.new + sum_by (look_ups board.now) asked.old.items ≤ steps.old + (length more.now.items + sum_by (look_ups board.now) keys) }
+{
+    if more.items().is_empty() {
+        return Ok(());
+    }
+    let _ = suspects.items();
+    let first = begun(alloc, board, marks, more.items(), steps)?;
+    put_copies(part, first.items())?;
+    while round(alloc, board, marks, suspects, part, asked, steps)? {}
+    Ok(())
+}
+
+/// A part of an edited catalogue, and the keys that were asked for.
+#[derive(Drop)]
+pub struct Asked {
+    pub part: Catalogue,
+    pub keys: Catalogue,
+}
+
 /// The part of an edited catalogue over which rounds are made: the suspects, and of the items that have no mark those that the suspects ask
-/// for, no more. It looks up what each suspect's option adds to, and once each key that is asked for, with what its node rests on. `Err` is want of
-/// memory.
+/// for, no more; and the keys that they ask for. It looks up what each suspect's option adds to, and once each key that is asked for, with what its
+/// node rests on. `Err` is want of memory.
 pub fn part_of<S: BuildHasher + Drop, L: Ledger>(
     alloc: Global,
     board: &Index<Item, S>,
     marks: &IndexSet<usize>,
     suspects: &Catalogue,
     steps: &mut Steps<L>,
-) -> Result<Catalogue, AllocError>
+) -> Result<Asked, AllocError>
     requires { AreApart board.now marks.now.keys suspects.now.items }
-    ensures part { (c : List Item) → HasNoHelper c → IsFullBoard board.now c → IfOk result (λ part. IsPartOf board.now c marks.now.keys suspects.now.items part.items) }
-    ensures least { (c p : List Item) → HasNoHelper c → IsFullBoard board.now c → IsPartOf board.now c marks.now.keys suspects.now.items p → IfOk result (λ part. IsWithin part.items p) }
-    ensures ticks { (c part keys : List Item) → HasNoHelper c → IsFullBoard board.now c → IsPartOf board.now c marks.now.keys suspects.now.items part → HasAsked part suspects.now.items keys
+    ensures asked { IfOk result (λ asked. HasAskedAll board.now marks.now.keys suspects.now.items asked.part.items asked.keys.items) }
+    ensures part { (c : List Item) → HasNoHelper c → IsFullBoard board.now c → IfOk result (λ asked. IsPartOf board.now c marks.now.keys suspects.now.items asked.part.items) }
+    ensures least { (c p : List Item) → HasNoHelper c → IsFullBoard board.now c → IsPartOf board.now c marks.now.keys suspects.now.items p → IfOk result (λ asked. IsWithin asked.part.items p) }
+    ensures spent { IfOk result (λ asked. steps.new ≤ steps.old + (length suspects.now.items + sum_by (look_ups board.now) asked.keys.items)) }
+    ensures ticks { (p keys : List Item) → IsClosed board.now marks.now.keys suspects.now.items p → HasAsked p suspects.now.items keys
         → steps.new ≤ steps.old + (length suspects.now.items + sum_by (look_ups board.now) keys) }
 {
-    let mut part = begun(alloc, board, marks, suspects.items(), steps)?;
-    let mut asked = Catalogue::of_sorted(Vec::new(alloc));
-    while round(alloc, board, marks, suspects, &mut part, &mut asked, steps)? {}
-    Ok(part)
+    let mut part = Catalogue::of_sorted(Vec::new(alloc));
+    let mut keys = Catalogue::of_sorted(Vec::new(alloc));
+    let _ = suspects.items();
+    ask_more(
+        alloc, board, marks, suspects, suspects, &mut part, &mut keys, steps,
+    )?;
+    Ok(Asked { part, keys })
 }

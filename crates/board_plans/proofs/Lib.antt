@@ -1,9 +1,10 @@
 mod Finding
 mod FirstKeys
 mod GoingOut
+mod Inserted
 mod Members
 mod Outgoing
+mod Passing
 mod PlanFrom
 mod Planned
-mod Topics
 mod Wanted

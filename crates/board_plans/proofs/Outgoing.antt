@@ -1,81 +1,135 @@
--- Numbers that go out, one by one.
-use Rattle.std.proofs.Common.{◌≡◌, ℕ, Bool, true, false, true≢false, if◌then◌else◌, nat_eq, List, [], ◌∷◌, ◌++◌, inl, inr, refl, sym, ◌∙◌, ap, subst}
-use Rattle.std.specs.Cmp.{nat_eq_equiv}
-use Rattle.std.specs.List.{Contains, list_any}
-use Rattle.std.proofs.lemmas.Bool.{both_ways, eqb-true}
-use Rattle.std.proofs.lemmas.List.Elements.{Contains-append_cases, Contains-append_left, Contains-push}
-use Rattle.std.proofs.lemmas.Map.Views.{Contains-from_any, list_any-from_Contains}
-use Rattle.finite_chains.proofs.Members.{Contains-cases, Contains-nil}
-use Rattle.item_index.specs.Graphs.{Graph, HasKey}
-use Rattle.graph_steps.proofs.Numbers.{one_key}
-use Rattle.indexmap.specs.IndexSet.{insert_key}
+-- What goes out: first what is no topic, then the topics that are spent by that.
+use Rattle.std.proofs.Common.{◌≡◌, ◌&&◌, ◌+◌, ◌≤◌, ℕ, Bool, true, false, cond, nat_eq, List, [], ◌∷◌, filter, length, inl, inr, refl, sym, ◌∙◌, ap, subst, arith}
+use Rattle.std.specs.List.{Contains, count_by, list_all, sum_by}
+use Rattle.std.proofs.lemmas.Bool.{cases_Bool}
+use Rattle.std.proofs.lemmas.List.Sums.{sum_by-cons}
+use Rattle.finite_chains.proofs.Members.{Contains-cases, Contains-filter, Contains-nil, filter_passes_one}
+use Rattle.item_index.specs.Graphs.{Graph}
+use Rattle.item_index.specs.Shelves.{list_at}
+use Rattle.graph_steps.specs.Steps.{AreNodes}
 use Rattle.cat_items.specs.declared.item.Item.{Item}
-use Rattle.board_plans.specs.Leaving.{AreOutgoing, IsOutgoing, is_topic}
-use Rattle.board_plans.proofs.Members.{Apart, apart_append, apart_of_pairs, pairs_of_apart}
+use Rattle.indexmap.specs.IndexSet.{insert_all}
+use Rattle.board_plans.specs.Leaving.{AreOutgoing, goes, is_item_at, is_spent, is_topic_at, look_ups}
+use Rattle.board_plans.specs.Spent.{has_no_other, is_among, links_cost}
+use Rattle.board_plans.proofs.Inserted.{inserted_apart, inserted_of, is_there, of_inserted, told_there}
+use Rattle.board_plans.proofs.Members.{Apart, pairs_of_apart}
 
-module _ (g : Graph Item) where
-  pub out_of_none : (out : List ℕ) → out ≡ [] → AreOutgoing g [] out
-  out_of_none out none = record {
-    exactly = λ n. (λ h. absurd (Contains-nil n (subst (λ (ns : List ℕ). Contains ns n) none h)), λ h. absurd (Contains-nil n h.0));
-    once = pairs_of_apart out (subst Apart (sym none) tt);
-  }
+-- ---- tests
 
-  module _ (seen out : List ℕ) (n : ℕ) (k : Item) (was : AreOutgoing g seen out) (has : HasKey g n k) where
-    -- a topic stays
-    pub out_topic : is_topic k ≡ true → AreOutgoing g (seen ++ n ∷ []) out
-    out_topic topic = record { exactly = λ m. (to m, from m); once = was.once }
-      where
-        to : (m : ℕ) → Contains out m → Contains (seen ++ n ∷ []) m × IsOutgoing g m
-        to m h = let r = (was.exactly m).0 h in (Contains-append_left seen (n ∷ []) m r.0, r.1)
+pub first_of : (a b : Bool) → a && b ≡ true → a ≡ true
+first_of true b e = refl
+first_of false b e = e
 
-        from : (m : ℕ) → Contains (seen ++ n ∷ []) m × IsOutgoing g m → Contains out m
-        from m h =
-            elim (Contains-append_cases seen (n ∷ []) m h.0) [
-              | inl old ↦ (was.exactly m).1 (old, h.1)
-              | inr new ↦ (elim (Contains-cases n [] m new) [
-                | inl e ↦ absurd (both_ways (is_topic h.1.0) h.1.2 (subst (λ (j : Item). is_topic j ≡ true) (one_key g m k h.1.0 (subst (λ (i : ℕ). HasKey g i k) e has) h.1.1) topic))
-                | inr none ↦ absurd (Contains-nil m none)
-              ])
-            ]
+pub second_of : (a b : Bool) → a && b ≡ true → b ≡ true
+second_of true b e = e
+second_of false b e = cc
 
-    -- another number goes
-    pub out_other : (after : List ℕ) → is_topic k ≡ false → after ≡ insert_key nat_eq out n → AreOutgoing g (seen ++ n ∷ []) after
-    out_other after other is = by (list_any (nat_eq n) out) refl
-      where
-        from_old : (ns : List ℕ) (m : ℕ) → Contains (seen ++ n ∷ []) m × IsOutgoing g m → (n ≡ m → Contains ns m) → (Contains out m → Contains ns m) → Contains ns m
-        from_old ns m h here there =
-            elim (Contains-append_cases seen (n ∷ []) m h.0) [
-              | inl old ↦ there ((was.exactly m).1 (old, h.1))
-              | inr new ↦ (elim (Contains-cases n [] m new) [ inl e ↦ here e | inr none ↦ absurd (Contains-nil m none) ])
-            ]
+pub both_of : (a b : Bool) → a ≡ true → b ≡ true → a && b ≡ true
+both_of a b one other = ap (λ x. x && b) one ∙ other
 
-        again : Contains out n → AreOutgoing g (seen ++ n ∷ []) out
-        again there = record {
-          exactly = λ m. (
-            λ h. let r = (was.exactly m).0 h in (Contains-append_left seen (n ∷ []) m r.0, r.1),
-            λ h. from_old out m h (λ e. subst (Contains out) e there) (λ old. old),
-          );
-          once = was.once;
-        }
+pub passes : (p : ℕ → Bool) (xs : List ℕ) → list_all p xs ≡ true → (x : ℕ) → Contains xs x → p x ≡ true
+passes p [] all x h = absurd (Contains-nil x h)
+passes p (y ∷ xs) all x h =
+    elim (Contains-cases y xs x h) [
+      | inl e ↦ subst (λ (z : ℕ). p z ≡ true) e (first_of (p y) (list_all p xs) all)
+      | inr later ↦ passes p xs (second_of (p y) (list_all p xs) all) x later
+    ]
 
-        joined : (Contains out n → ⊥) → AreOutgoing g (seen ++ n ∷ []) (out ++ n ∷ [])
-        joined none = record {
-          exactly = λ m. (
-            λ h. elim (Contains-append_cases out (n ∷ []) m h) [
-              | inl old ↦ let r = (was.exactly m).0 old in (Contains-append_left seen (n ∷ []) m r.0, r.1)
-              | inr new ↦ (elim (Contains-cases n [] m new) [
-                | inl e ↦ subst (λ (i : ℕ). Contains (seen ++ n ∷ []) i × IsOutgoing g i) e (Contains-push seen n, (k, has, other))
-                | inr empty ↦ absurd (Contains-nil m empty)
-              ])
-            ],
-            λ h. from_old (out ++ n ∷ []) m h (λ e. subst (Contains (out ++ n ∷ [])) e (Contains-push out n)) (Contains-append_left out (n ∷ []) m),
-          );
-          once = pairs_of_apart (out ++ n ∷ []) (apart_append out (n ∷ []) (apart_of_pairs out was.once) (λ h. Contains-nil n h, tt)
-              (λ m old new. elim (Contains-cases n [] m new) [ inl e ↦ none (subst (Contains out) (sym e) old) | inr empty ↦ Contains-nil m empty ]));
-        }
+same_test : (a b : Bool) → (a ≡ true → b ≡ true) → (b ≡ true → a ≡ true) → a ≡ b
+same_test true b to from = sym (to refl)
+same_test false true to from = from refl
+same_test false false to from = refl
 
-        by : (b : Bool) → list_any (nat_eq n) out ≡ b → AreOutgoing g (seen ++ n ∷ []) after
-        by true e =
-            subst (AreOutgoing g (seen ++ n ∷ [])) (sym (is ∙ ap (λ (b : Bool). if b then out else out ++ n ∷ []) e)) (again (Contains-from_any (λ x y same. eqb-true x y same) n out e))
-        by false e =
-            subst (AreOutgoing g (seen ++ n ∷ [])) (sym (is ∙ ap (λ (b : Bool). if b then out else out ++ n ∷ []) e)) (joined (λ h. true≢false (sym (list_any-from_Contains nat_eq_equiv n out h) ∙ e)))
+module _ (p q : ℕ → Bool) (same : (n : ℕ) → p n ≡ q n) where
+  pub all_same : (xs : List ℕ) → list_all p xs ≡ list_all q xs
+  all_same [] = refl
+  all_same (x ∷ xs) = ap (λ b. b && list_all p xs) (same x) ∙ ap (λ b. q x && b) (all_same xs)
+
+  pub count_same : (xs : List ℕ) → count_by p xs ≡ count_by q xs
+  count_same [] = refl
+  count_same (x ∷ xs) =
+      sum_by-cons (λ y. cond (p y) 1 0) x xs ∙ ap (λ b. cond b 1 0 + count_by p xs) (same x) ∙ ap (λ n. cond (q x) 1 0 + n) (count_same xs) ∙ sym (sum_by-cons (λ y. cond (q y) 1 0) x xs)
+
+  module _ {K : Type 0} (g : Graph K) (n : ℕ) where
+    pub no_other_same : has_no_other p g n ≡ has_no_other q g n
+    no_other_same = ap (λ b. b && list_all p (list_at g.dependents n)) (all_same (list_at g.rests n)) ∙ ap (λ b. list_all q (list_at g.rests n) && b) (all_same (list_at g.dependents n))
+
+    pub cost_same : links_cost p g n ≡ links_cost q g n
+    cost_same = let rests = count_same (list_at g.rests n) in let dependents = count_same (list_at g.dependents n) in omega arith
+
+-- ---- what goes out
+
+module _ (g : Graph Item) (touched items topics : List ℕ) (items_are : items ≡ insert_all nat_eq [] (filter (is_item_at g) touched))
+    (topics_are : topics ≡ filter (is_topic_at g) touched) where
+  item_goes : (n : ℕ) → Contains items n → goes g touched n ≡ true
+  item_goes n h =
+      elim (inserted_of (filter (is_item_at g) touched) [] n (subst (λ (ns : List ℕ). Contains ns n) items_are h)) [
+        | inl none ↦ absurd (Contains-nil n none)
+        | inr is ↦ let r = filter_passes_one (is_item_at g) touched n is in both_of (is_among touched n) (is_item_at g n) (told_there n touched r.0) r.1
+      ]
+
+  goes_item : (n : ℕ) → goes g touched n ≡ true → Contains items n
+  goes_item n e =
+      let at = is_there n touched (first_of (is_among touched n) (is_item_at g n) e) in
+      let is = second_of (is_among touched n) (is_item_at g n) e in
+      subst (λ (ns : List ℕ). Contains ns n) (sym items_are) (of_inserted (filter (is_item_at g) touched) [] n (inr (Contains-filter (is_item_at g) touched n at is)))
+
+  pub among_goes : (n : ℕ) → is_among items n ≡ goes g touched n
+  among_goes n = same_test (is_among items n) (goes g touched n) (λ e. item_goes n (is_there n items e)) (λ e. told_there n items (goes_item n e))
+
+  module _ (spent : List ℕ) (spent_are : spent ≡ filter (has_no_other (is_among items) g) topics) where
+    topic_spent : (n : ℕ) → Contains spent n → is_spent g touched n ≡ true
+    topic_spent n h =
+        let r = filter_passes_one (has_no_other (is_among items) g) topics n (subst (λ (ns : List ℕ). Contains ns n) spent_are h) in
+        let s = filter_passes_one (is_topic_at g) touched n (subst (λ (ns : List ℕ). Contains ns n) topics_are r.0) in
+        both_of (is_among touched n && is_topic_at g n) (has_no_other (goes g touched) g n) (both_of (is_among touched n) (is_topic_at g n) (told_there n touched s.0) s.1)
+        (sym (no_other_same (is_among items) (goes g touched) among_goes g n) ∙ r.1)
+
+    spent_topic : (n : ℕ) → is_spent g touched n ≡ true → Contains spent n
+    spent_topic n e =
+        let first = first_of (is_among touched n && is_topic_at g n) (has_no_other (goes g touched) g n) e in
+        let last = second_of (is_among touched n && is_topic_at g n) (has_no_other (goes g touched) g n) e in
+        let at = is_there n touched (first_of (is_among touched n) (is_topic_at g n) first) in
+        let is = second_of (is_among touched n) (is_topic_at g n) first in
+        let topic = subst (λ (ns : List ℕ). Contains ns n) (sym topics_are) (Contains-filter (is_topic_at g) touched n at is) in
+        subst (λ (ns : List ℕ). Contains ns n) (sym spent_are)
+        (Contains-filter (has_no_other (is_among items) g) topics n topic (no_other_same (is_among items) (goes g touched) among_goes g n ∙ last))
+
+    pub all_go : (out : List ℕ) → out ≡ insert_all nat_eq items spent → AreOutgoing g touched out
+    all_go out out_is = record {
+      exactly = λ n. (
+        λ h. elim (inserted_of spent items n (subst (λ (ns : List ℕ). Contains ns n) out_is h)) [ inl item ↦ inl (item_goes n item) | inr topic ↦ inr (topic_spent n topic) ],
+        λ is. subst (λ (ns : List ℕ). Contains ns n) (sym out_is) (of_inserted spent items n (elim is [ inl item ↦ inl (goes_item n item) | inr topic ↦ inr (spent_topic n topic) ])),
+      );
+      once = pairs_of_apart out (subst Apart (sym out_is) (inserted_apart spent items (subst Apart (sym items_are) (inserted_apart (filter (is_item_at g) touched) [] tt))));
+    }
+
+  -- ---- what it costs
+
+  costs : (ns : List ℕ) → length ns + sum_by (links_cost (is_among items) g) (filter (is_topic_at g) ns) ≡ sum_by (look_ups g touched) ns
+  costs [] = refl
+  costs (n ∷ ns) =
+      let rest = costs ns in
+      let same = cost_same (is_among items) (goes g touched) among_goes g n in
+      let first = sum_by-cons (look_ups g touched) n ns in
+      elim (cases_Bool (is_topic_at g n)) [
+        | inl topic ↦
+            let more = ap (sum_by (links_cost (is_among items) g)) (ap (λ b. cond b (n ∷ filter (is_topic_at g) ns) (filter (is_topic_at g) ns)) topic) ∙ sum_by-cons (links_cost (is_among items) g) n (filter (is_topic_at g) ns) in
+            let own = ap (λ b. 1 + cond b (links_cost (goes g touched) g n) 0) topic in
+            omega arith
+        | inr other ↦
+            let more = ap (sum_by (links_cost (is_among items) g)) (ap (λ b. cond b (n ∷ filter (is_topic_at g) ns) (filter (is_topic_at g) ns)) other) in
+            let own = ap (λ b. 1 + cond b (links_cost (goes g touched) g n) 0) other in
+            omega arith
+      ]
+
+  pub all_cost : length touched + sum_by (links_cost (is_among items) g) topics ≡ sum_by (look_ups g touched) touched
+  all_cost = ap (λ (ns : List ℕ). length touched + sum_by (links_cost (is_among items) g) ns) topics_are ∙ costs touched
+
+-- the key of each is the least
+pub at_least : (g : Graph Item) (touched : List ℕ) → length touched ≤ sum_by (look_ups g touched) touched
+at_least g touched = let all = all_cost g touched (insert_all nat_eq [] (filter (is_item_at g) touched)) (filter (is_topic_at g) touched) refl refl in omega arith
+
+-- each topic is one of these
+pub topics_have_keys : (g : Graph Item) (touched topics : List ℕ) → topics ≡ filter (is_topic_at g) touched → AreNodes g touched → AreNodes g topics
+topics_have_keys g touched topics are nodes n h = nodes n ((filter_passes_one (is_topic_at g) touched n (subst (λ (ns : List ℕ). Contains ns n) are h)).0)

@@ -234,7 +234,7 @@ module _ (eq : Item → Item → Bool) (laws : IsEquivalence eq) (g : Graph Item
   pub is_plan : IsPlanOf g c new suspect out keys (links_of g out keys ends)
   is_plan = record {
     suspects_out = suspects_out eq g c new suspect touched arrivals can out outgoing;
-    only_out = λ n h. let was = only_out eq g c new suspect touched arrivals can out outgoing n h in (was.0, was.1, inl was.2);
+    only_out = only_out eq g c new suspect touched arrivals can out outgoing;
     out_once = outgoing.once;
     suspects_in = λ k of. first_stays k (in_first k of);
     topics_in = topics_in;

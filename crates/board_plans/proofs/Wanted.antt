@@ -16,10 +16,10 @@ use Rattle.board_steps.proofs.Apart.{one_item}
 use Rattle.board_plans.specs.declared.arrivals.Arrival.{Arrival}
 use Rattle.board_plans.specs.Arrivals.{links_by}
 use Rattle.board_plans.specs.Ends.{IsEndAmong}
-use Rattle.board_plans.specs.Leaving.{is_topic}
+use Rattle.key_tests.specs.Tests.{is_topic}
 use Rattle.board_plans.specs.Planning.{AreArrivals, IsAddedTo, IsArrivalOf}
 use Rattle.board_plans.proofs.Members.{Apart, apart_append, apart_flat, apart_map, apart_of_pairs, flat_has, map_has, of_flat, of_map, pairs_map}
-use Rattle.board_plans.proofs.Topics.{item_is_none, topic_is}
+use Rattle.key_tests.proofs.TopicKeys.{item_is_none, topic_is}
 
 -- ---- the links of one arrival
 

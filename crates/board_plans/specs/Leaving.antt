@@ -1,36 +1,40 @@
--- Which numbers of a board go out: those of items, and of rights that the system could grant.
-use Rattle.std.specs.Prelude.{◌≡◌, ◌≢◌, ◌↔◌, ◌&&◌, ◌||◌, ℕ, Bool, true, false, List}
+-- Which numbers of a board go out: those of items, of rights that the system could grant, and of topics that are linked with nothing else.
+use Rattle.std.specs.Prelude.{◌≡◌, ◌≢◌, ◌↔◌, ◌⊎◌, ◌&&◌, ◌+◌, ℕ, Bool, true, false, not, cond, List, Option, Some, slice_get}
 use Rattle.std.specs.List.{AllPairs, Contains}
-use Rattle.item_index.specs.Graphs.{Graph, HasKey}
-use Rattle.cat_items.specs.declared.need.Auth.{Auth}
-use Rattle.cat_items.specs.declared.need.Auth.TheVariants.{Public, System}
-use Rattle.cat_items.specs.declared.item.Right.{Right}
+use Rattle.item_index.specs.Graphs.{Graph}
 use Rattle.cat_items.specs.declared.item.Item.{Item}
-use Rattle.cat_items.specs.declared.item.Item.TheVariants as item
+use Rattle.key_tests.specs.Tests.{is_topic}
+use Rattle.board_plans.specs.Spent.{has_no_other, is_among, links_cost}
 
-abbrev pub is_public : Auth → Bool
-is_public Public = true
-is_public a = false
+abbrev pub has_topic : Option (Option Item) → Bool
+has_topic (Some (Some k)) = is_topic k
+has_topic o = false
 
-abbrev pub is_system : Auth → Bool
-is_system System = true
-is_system a = false
+abbrev pub has_item : Option (Option Item) → Bool
+has_item (Some (Some k)) = not (is_topic k)
+has_item o = false
 
-abbrev pub is_topic_right : Right → Bool
-is_topic_right r = is_public r.grantor || (is_system r.grantor && is_system r.grantee)
+-- whether the number has a topic's key
+abbrev pub is_topic_at : Graph Item → ℕ → Bool
+is_topic_at g n = has_topic (slice_get g.keys n)
 
--- whether a key of a board is a topic's: it is granted by PUBLIC, or by the system to the system
-abbrev pub is_topic : Item → Bool
-is_topic (item.RoleAuth g) = is_public g.grantor
-is_topic (item.RoleAdmin g) = is_public g.grantor
-is_topic (item.Held r) = is_topic_right r
-is_topic x = false
+-- whether it has a key that is no topic's
+abbrev pub is_item_at : Graph Item → ℕ → Bool
+is_item_at g n = has_item (slice_get g.keys n)
 
--- the number has a key that is no topic's
-abbrev pub IsOutgoing : Graph Item → ℕ → Type 0
-IsOutgoing g n = (k : Item) × HasKey g n k × (is_topic k ≡ false)
+-- the number is touched, and its key is no topic's
+abbrev pub goes : Graph Item → List ℕ → ℕ → Bool
+goes g touched n = is_among touched n && is_item_at g n
 
--- all of these numbers that are so, each once
+-- the number is touched, its key is a topic's, and all that it is linked with goes
+abbrev pub is_spent : Graph Item → List ℕ → ℕ → Bool
+is_spent g touched n = is_among touched n && is_topic_at g n && has_no_other (goes g touched) g n
+
+-- all numbers that go, and of the topics those that are spent by that, each once
 pub record AreOutgoing (g : Graph Item) (touched out : List ℕ) : Type 0 where
-  pub exactly : (n : ℕ) → Contains out n ↔ (Contains touched n × IsOutgoing g n)
+  pub exactly : (n : ℕ) → Contains out n ↔ ((goes g touched n ≡ true) ⊎ (is_spent g touched n ≡ true))
   pub once : AllPairs (λ m n. m ≢ n) out
+
+-- what it costs to tell: the key of the number, and of a topic what it is linked with
+abbrev pub look_ups : Graph Item → List ℕ → ℕ → ℕ
+look_ups g touched n = 1 + cond (is_topic_at g n) (links_cost (goes g touched) g n) 0

@@ -5,6 +5,7 @@ mod arrivals;
 mod ends;
 mod leaving;
 mod plan;
+mod spent;
 
 pub use arrivals::Arrival;
 pub use plan::{Plan, plan_of};

@@ -8,6 +8,7 @@ ghost use Rattle.cat_items.specs.declared.item.Item.{Item};
 ghost use Rattle.cat_items.specs.contracts.item.ItemPartialEq.TheImpl as same;
 ghost use Rattle.board_steps.specs.Plans.{IsPlanOf};
 ghost use Rattle.board_plans.specs.Arrivals.{links_by};
+ghost use Rattle.board_plans.specs.Leaving.{AreOutgoing, look_ups};
 ghost use Rattle.board_plans.specs.Planning.{CanPlan};
 
 use crate::arrivals::{Arrival, keys_of_all, links_by_all};
@@ -36,8 +37,9 @@ pub struct Plan {
     pub links: Vec<(End, End)>,
 }
 
-/// The plan for a board whose touched numbers are those of the suspects, and of topics, and to which these come. Topics that are left without
-/// links stay. It looks up each touched number, and an end of each link at most. `Err` is want of memory.
+/// The plan for a board whose touched numbers are those of the suspects, and of topics, and to which these come. Touched topics go out too,
+/// where all that they are linked with does, and come in again where a new suspect goes by them. It looks up each touched number, of topics
+/// what they are linked with as far as that goes out, and an end of each new link at most. `Err` is want of memory.
 pub fn plan_of<L: Ledger>(
     alloc: Global,
     board: &Index<Item>,
@@ -48,8 +50,9 @@ pub fn plan_of<L: Ledger>(
     requires { AreNodes board.now touched.now.keys }
     ensures plan { IfOk result (λ plan. (c new : List Item) (suspect : Item → Bool) → CanPlan same.ghosts.eq board.now c new suspect touched.now.keys arrivals.now
         → IsPlanOf board.now c new suspect plan.out.items plan.keys.items (links_of board.now plan.out.items plan.keys.items plan.links.items)) }
+    ensures out { IfOk result (λ plan. AreOutgoing board.now touched.now.keys plan.out.items) }
     ensures placed { IfOk result (λ plan. All (ArePlaced (length plan.keys.items)) plan.links.items) }
-    ensures few { steps.new ≤ steps.old + length touched.now.keys + sum_by (λ a. length (links_by a)) arrivals.now }
+    ensures few { steps.new ≤ steps.old + sum_by (look_ups board.now touched.now.keys) touched.now.keys + sum_by (λ a. length (links_by a)) arrivals.now }
 {
     let out = outgoing(alloc, board, touched, steps)?;
     let mut keys = keys_of_all(alloc, arrivals)?;

@@ -11,3 +11,4 @@ pub mod OwnSessions
 pub mod SessionLaws
 pub mod Settled
 pub mod SharedLaws
+pub mod Narrow

@@ -51,11 +51,13 @@ impl Model for Book {
     ghost use Rattle.std.specs.Prelude.{◌≡◌};
     ghost use Rattle.cat_engine.specs.Contents.{bytes_held};
     ghost use Rattle.cat_engine.specs.Histories.{IsReached};
+    ghost use Rattle.catalogue_changes.specs.Widths.{IsNarrow};
 
     ghost view = { λ b. record { users = b.users.value.items; content = b.environment; journal = b.journal.items; limits = b.limits } };
 
     ghost invariant = { λ b. (b.held ≡ bytes_held b.journal.items)
-        × IsReached (record { users = b.users.value.items; content = b.environment; journal = b.journal.items; limits = b.limits }) };
+        × IsReached (record { users = b.users.value.items; content = b.environment; journal = b.journal.items; limits = b.limits })
+        × IsNarrow b.environment.catalogue b.limits.columns };
 }
 
 impl Book {
@@ -103,27 +105,30 @@ impl Book {
     /// Answers one statement of a session, given without its semicolon.
     ///
     /// A text that is answered gets an entry in the journal, a refused one too. `JournalFull` and `OutOfMemory` leave all as it was.
-    /// `steps` counts look-ups in an index of descriptors; there is none so far, so it stays.
+    /// `steps` counts the look-ups in the board of the catalogue, which follow what a statement's edit touches.
     pub fn apply<L: Ledger>(&mut self, session: u32, text: &[u8], steps: &mut Steps<L>) -> Reply
         requires { length text.now ≤ 65535 }
         ensures step { StepOrNone self.old session text.now result self.new }
-        ensures steps { steps.new ≡ steps.old }
         ensures reached { IsReached self.old }
         ensures few { length self.new.journal ≤ 2 ^ 63 }
     {
-        let _ = steps;
         let size = ENTRY_BYTES + text.len() as u64;
         if self.limits.journal - self.held < size {
             return Reply::JournalFull { held: self.held };
         }
-        match self.answer(session, text) {
+        match self.answer(session, text, steps) {
             Ok(reply) => reply,
             Err(_) => Reply::OutOfMemory,
         }
     }
 
     // Answers a text for which the journal has room. All memory is taken before the first change.
-    fn answer(&mut self, session: u32, text: &[u8]) -> Result<Reply, AllocError>
+    fn answer<L: Ledger>(
+        &mut self,
+        session: u32,
+        text: &[u8],
+        steps: &mut Steps<L>,
+    ) -> Result<Reply, AllocError>
         requires few { length text.now ≤ 65535 }
         requires room { ¬ (IsJournalFull self.old text.now) }
         ensures ok { IfOk result (λ reply. IsEntered self.old session text.now reply self.new) }
@@ -136,7 +141,7 @@ impl Book {
         self.journal.reserve(1)?;
         let reply = self
             .environment
-            .answer(self.alloc, &self.limits, session, text)?;
+            .answer(self.alloc, &self.limits, session, text, steps)?;
         self.held += ENTRY_BYTES + text.len() as u64;
         enter(&mut self.journal, entry);
         Ok(reply)

@@ -9,6 +9,7 @@ ghost use Rattle.cat_items.specs.Good.{IsGood};
 ghost use Rattle.cat_items.specs.Catalogues.{IsInOrder, IsUserOf};
 ghost use Rattle.statement_forms.specs.Written.{IsWritten};
 ghost use Rattle.edit_rules.specs.First.{HasPassed, IsTested, Tested};
+ghost use Rattle.catalogue_changes.specs.Widths.{IsNarrow};
 ghost use Rattle.catalogue_edits.specs.Statements.{IsBuiltEdit};
 ghost use Rattle.cat_engine.specs.Built.{IsBuilt};
 ghost use Rattle.cat_engine.specs.ConnectionRefusals as connections;
@@ -25,18 +26,20 @@ use crate::reply::Reply;
 use crate::session::{Connection, Setting};
 use crate::sessions::Sessions;
 use cat_items::{Auth, Catalogue, EditError, Limits, Refusal, Who};
-use catalogue_edits::{Warning, revise};
+use catalogue_edits::{Store, Warning, revise};
 use edit_rules::{is_role, is_user};
 use information_schema::{InfoError, Rows, answer};
+use item_index::Steps;
 use role_graph::reaches;
 use sql_tree::{Connect, InfoQuery, Name, RoleChoice, Statement};
 use std::alloc::{AllocError, Global};
 use std::marker::Model;
+use std::sync::ledger::Ledger;
 
-/// The catalogue, and the connections of each session.
+/// The catalogue with its board, and the connections of each session.
 #[derive(Drop)]
 pub struct Environment {
-    catalogue: Catalogue,
+    store: Store,
     sessions: Sessions,
 }
 
@@ -51,11 +54,7 @@ impl Model for Environment {
 
     ghost coded = { Prim.hlevel (codes, expr.the_row.coded, query.the_row.coded) };
 
-    ghost use Rattle.cat_items.specs.Good.{IsGood};
-
-    ghost view = { λ e. record { catalogue = e.catalogue.items; sessions = e.sessions } };
-
-    ghost invariant = { λ e. IsGood e.catalogue.items };
+    ghost view = { λ e. record { catalogue = e.store; sessions = e.sessions } };
 }
 
 fn role_chosen(choice: RoleChoice) -> Option<Name>
@@ -104,8 +103,9 @@ impl Environment {
         ensures members { IfOk result (λ e. (x : ItemSpec) → Contains e.catalogue x ↔ IsUserOf users.now.items x) }
         ensures sessions { IfOk result (λ e. e.sessions ≡ []) }
     {
+        let opening = Catalogue::opening(alloc, users)?;
         Ok(Environment {
-            catalogue: Catalogue::opening(alloc, users)?,
+            store: Store::new(alloc, opening)?,
             sessions: Sessions::new(alloc),
         })
     }
@@ -115,7 +115,7 @@ impl Environment {
         ensures items { result.now.items ≡ self.now.catalogue }
         ensures good { IsGood self.now.catalogue }
     {
-        &self.catalogue
+        self.store.catalogue()
     }
 
     /// For whom a session's statements are run; `None` where it has no current connection.
@@ -141,7 +141,7 @@ impl Environment {
         if self.sessions.has(number, &name) {
             return Err(EditError::Refused(Refusal::ConnectionInUse));
         }
-        if !is_user(&self.catalogue, &user) {
+        if !is_user(self.store.catalogue(), &user) {
             return Err(EditError::Refused(Refusal::UnknownUser));
         }
         let who = Who {
@@ -200,44 +200,50 @@ impl Environment {
         let Some(who) = self.sessions.who(number) else {
             return Err(EditError::Refused(Refusal::NotConnected));
         };
-        test_role(alloc, &self.catalogue, who, &role)?;
+        test_role(alloc, self.store.catalogue(), who, &role)?;
         self.sessions.set(number, Setting::Role(role))?;
         Ok(Outcome::Done)
     }
 
     // Makes of the catalogue what a statement makes of it.
-    fn revise(
+    fn revise<L: Ledger>(
         &mut self,
         alloc: Global,
         limits: &Limits,
         number: u32,
         statement: &Statement,
+        steps: &mut Steps<L>,
     ) -> Result<Option<Warning>, EditError>
+        requires narrow { IsNarrow self.old.catalogue limits.now.columns }
         requires built { IsBuiltEdit statement.now }
         requires written { IsWritten statement.now }
-        ensures { Tested (refusals.session_edit_refusals limits.now number self.old statement.now)
+        ensures tested { Tested (refusals.session_edit_refusals limits.now number self.old statement.now)
             (λ warning. effects.Revises statement.now number self.old warning self.new) (self.new ≡ self.old) result }
+        ensures narrow { IsNarrow self.new.catalogue limits.now.columns }
     {
         match self.sessions.who(number) {
             None => Err(EditError::Refused(Refusal::NotConnected)),
-            Some(who) => revise(alloc, limits, &mut self.catalogue, who, statement),
+            Some(who) => revise(alloc, limits, &mut self.store, who, statement, steps),
         }
     }
 
     // What is done where the catalogue is edited.
-    fn edit(
+    fn edit<L: Ledger>(
         &mut self,
         alloc: Global,
         limits: &Limits,
         number: u32,
         statement: &Statement,
+        steps: &mut Steps<L>,
     ) -> Result<Outcome, EditError>
+        requires narrow { IsNarrow self.old.catalogue limits.now.columns }
         requires built { IsBuiltEdit statement.now }
         requires written { IsWritten statement.now }
-        ensures { Tested (refusals.session_edit_refusals limits.now number self.old statement.now)
+        ensures tested { Tested (refusals.session_edit_refusals limits.now number self.old statement.now)
             (λ outcome. effects.Edits statement.now number self.old outcome self.new) (self.new ≡ self.old) result }
+        ensures narrow { IsNarrow self.new.catalogue limits.now.columns }
     {
-        let warning = self.revise(alloc, limits, number, statement)?;
+        let warning = self.revise(alloc, limits, number, statement, steps)?;
         Ok(outcome_of(warning))
     }
 
@@ -249,7 +255,7 @@ impl Environment {
         let Some(who) = self.sessions.who(number) else {
             return Err(EditError::Refused(Refusal::NotConnected));
         };
-        match answer(alloc, &self.catalogue, who, query) {
+        match answer(alloc, self.store.catalogue(), who, query) {
             Ok(rows) => Ok(Outcome::Answered(rows)),
             Err(InfoError::UnknownName(path)) => {
                 Err(EditError::Refused(Refusal::UnknownName { path }))
@@ -260,17 +266,20 @@ impl Environment {
     }
 
     // Does what a statement says where nothing refuses it.
-    fn execute(
+    fn execute<L: Ledger>(
         &mut self,
         alloc: Global,
         limits: &Limits,
         number: u32,
         statement: Statement,
+        steps: &mut Steps<L>,
     ) -> Result<Outcome, EditError>
+        requires narrow { IsNarrow self.old.catalogue limits.now.columns }
         requires built { IsBuilt statement }
         requires written { IsWritten statement }
-        ensures { Tested (refusals.statement_refusals limits.now number self.old statement)
+        ensures tested { Tested (refusals.statement_refusals limits.now number self.old statement)
             (λ outcome. effects.Changes statement number self.old outcome self.new) (self.new ≡ self.old) result }
+        ensures narrow { IsNarrow self.new.catalogue limits.now.columns }
     {
         match statement {
             Statement::Connect(parts) => self.connect(alloc, number, parts),
@@ -279,27 +288,30 @@ impl Environment {
             Statement::SetSchema(schema) => self.set_schema(number, schema),
             Statement::SetRole(choice) => self.set_role(alloc, number, choice),
             Statement::Select(query) => self.select(alloc, number, &query),
-            edit => self.edit(alloc, limits, number, &edit),
+            edit => self.edit(alloc, limits, number, &edit, steps),
         }
     }
 
     /// Answers a text of a session. All its memory is taken before the first change; `Err` is want of memory.
-    pub fn answer(
+    pub fn answer<L: Ledger>(
         &mut self,
         alloc: Global,
         limits: &Limits,
         number: u32,
         text: &[u8],
+        steps: &mut Steps<L>,
     ) -> Result<Reply, AllocError>
+        requires narrow { IsNarrow self.old.catalogue limits.now.columns }
         ensures ok { IfOk result (λ reply. Answers limits.now number self.old text.now reply self.new) }
         ensures err { OnErr result (self.new ≡ self.old) }
+        ensures narrow { IsNarrow self.new.catalogue limits.now.columns }
     {
         let statement = match read(alloc, text) {
             Ok(statement) => statement,
             Err(EditError::Refused(refusal)) => return Ok(Reply::Refused(refusal)),
             Err(EditError::Memory) => return Err(AllocError),
         };
-        match self.execute(alloc, limits, number, statement) {
+        match self.execute(alloc, limits, number, statement, steps) {
             Ok(outcome) => Ok(reply_of(outcome)),
             Err(EditError::Refused(refusal)) => Ok(Reply::Refused(refusal)),
             Err(EditError::Memory) => Err(AllocError),

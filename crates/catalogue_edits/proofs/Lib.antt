@@ -1,5 +1,5 @@
-pub mod Openings
 pub mod Outcomes
 pub mod Plans
 pub mod Settled
 pub mod SoundEdits
+pub mod Stored

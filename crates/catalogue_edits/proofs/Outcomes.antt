@@ -15,7 +15,7 @@ use Rattle.cat_items.specs.Good.{IsGood}
 use Rattle.support_laws.proofs.Settled.{one_new, new_is_good}
 use Rattle.new_catalogues.specs.Further.{IsLeastFurther}
 use Rattle.new_catalogues.specs.Width.{HasMoreColumns, IsLeastWide}
-use Rattle.edit_rules.specs.First.{First, Passes, IsTested, Tested}
+use Rattle.edit_rules.specs.First.{First, Passes, Tested}
 use Rattle.edit_laws.specs.Sound.{IsSound}
 use Rattle.edit_rules.proofs.FirstLaws.{passes_none, passes_more}
 use Rattle.catalogue_edits.specs.declared.warning.Warning.{Warning}
@@ -72,14 +72,15 @@ for_passes c who s edit test is passes r h = passes r (subst (λ e. test e r) (e
 
 -- what comes of it is refused
 pub outcome_exit : {T : Type 0} (limits : Limits) (c : List Item) (who : Who) (s : Statement) (edit : Edit) (restrict : Option Bool) (Done : T → Type 0) (AllDone : Option Warning → Type 0) (same : Type 0)
-    (e : EditError) (exit : Result (Option Warning) EditError) → same → IsErrAnd exit (λ error. error ≡ e) → restrict ≡ (kind_of s).restricts → Passes (First (edit_refusals c who s)) → IsEditOf c who s edit
-    → IsTested (outcome_refusals limits c restrict edit) Done (Err e) → Tested (revision_refusals limits c who s) AllDone same exit
-outcome_exit limits c who s edit restrict Done AllDone same e (Ok warning) here is by passes of h = absurd is
-outcome_exit limits c who s edit restrict Done AllDone same (Refused q) (Err (Refused r)) here is by passes of h =
+    (e : EditError) (exit : Result (Option Warning) EditError) → IsErrAnd exit (λ error. error ≡ e) → restrict ≡ (kind_of s).restricts → Passes (First (edit_refusals c who s)) → IsEditOf c who s edit
+    → Tested (outcome_refusals limits c restrict edit) Done same (Err e) → Tested (revision_refusals limits c who s) AllDone same exit
+outcome_exit limits c who s edit restrict Done AllDone same e (Ok warning) is by passes of h = absurd is
+outcome_exit limits c who s edit restrict Done AllDone same (Refused q) (Err (Refused r)) is by passes of h =
     let one : q ≡ r = cc in
-    (inr (passes, inl (edit, of, subst (λ o. First (outcome_refusals limits c o edit) r) by (subst (λ x. First (outcome_refusals limits c restrict edit) x) one h.0))), here)
-outcome_exit limits c who s edit restrict Done AllDone same Memory (Err (Refused r)) here is by passes of h = absurd (let odd : Refused r ≡ Memory = is in cc)
-outcome_exit limits c who s edit restrict Done AllDone same e (Err Memory) here is by passes of h = here
+    (inr (passes, inl (edit, of, subst (λ o. First (outcome_refusals limits c o edit) r) by (subst (λ x. First (outcome_refusals limits c restrict edit) x) one h.0))), h.1)
+outcome_exit limits c who s edit restrict Done AllDone same Memory (Err (Refused r)) is by passes of h = absurd (let odd : Refused r ≡ Memory = is in cc)
+outcome_exit limits c who s edit restrict Done AllDone same (Refused q) (Err Memory) is by passes of h = absurd (let odd : Memory ≡ Refused q = is in cc)
+outcome_exit limits c who s edit restrict Done AllDone same Memory (Err Memory) is by passes of h = h
 
 -- it is done
 pub revised : (limits : Limits) (c : List Item) (who : Who) (s : Statement) (edit : Edit) (restrict : Option Bool) (warning : Option Warning) (new : List Item)

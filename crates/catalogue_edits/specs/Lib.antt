@@ -3,4 +3,5 @@ pub mod Limits
 pub mod Restrict
 pub mod Revisions
 pub mod Statements
+pub mod Stores
 pub mod Warnings

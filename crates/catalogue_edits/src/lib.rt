@@ -3,13 +3,14 @@
 
 mod calls;
 mod laws;
-mod outcome;
 mod plan;
 mod revisions;
+mod store;
 mod warning;
 
 pub use calls::{edit_statement, edit_statement as edit_alter, edit_statement as edit_create};
 pub use laws::{a_refusal_is_settled, a_revision_is_settled, edits_are_sound, edits_leave_users};
 pub use plan::{Plan, plan_of};
 pub use revisions::{is_edit, revise};
+pub use store::Store;
 pub use warning::Warning;

@@ -1,18 +1,20 @@
 //! What a statement makes of a catalogue.
 
 ghost use Rattle.std.specs.Prelude.{◌≡◌, ◌↔◌, IsTrue};
-ghost use Rattle.cat_items.specs.Good.{IsGood};
+ghost use Rattle.catalogue_changes.specs.Widths.{IsNarrow};
 ghost use Rattle.statement_forms.specs.Written.{IsWritten};
 ghost use Rattle.edit_rules.specs.First.{Tested};
 ghost use Rattle.catalogue_edits.specs.Revisions.{IsRevised, revision_refusals};
 ghost use Rattle.catalogue_edits.specs.Statements.{IsBuiltEdit};
 
-use crate::outcome::outcome;
 use crate::plan::plan_of;
+use crate::store::Store;
 use crate::warning::Warning;
-use cat_items::{Catalogue, EditError, Limits, Who};
+use cat_items::{EditError, Limits, Who};
+use item_index::Steps;
 use sql_tree::Statement;
 use std::alloc::Global;
+use std::sync::ledger::Ledger;
 
 /// Whether a statement edits the catalogue, and is of a kind that is built.
 #[tactic(auto, unfolding(crate::specs::Kinds::kind_of))]
@@ -30,23 +32,23 @@ pub fn is_edit(statement: &Statement) -> bool
 /// Makes of a catalogue what a statement makes of it, and tells what it warns of; or tells the first of its refusals
 /// (SQL:2003 part 2, 11 and 12), and leaves all as it is. `Memory` is want of memory, and leaves all as it is.
 ///
-/// It makes the new catalogue anew, so it takes time and memory by the size of the catalogue.
-pub fn revise(
+/// `steps` counts the look-ups in the board: they follow what the edit touches. The catalogue's list is moved in one pass.
+pub fn revise<L: Ledger>(
     alloc: Global,
     limits: &Limits,
-    c: &mut Catalogue,
+    store: &mut Store,
     who: &Who,
     statement: &Statement,
+    steps: &mut Steps<L>,
 ) -> Result<Option<Warning>, EditError>
-    requires good { IsGood c.old.items }
+    requires narrow { IsNarrow store.old limits.now.columns }
     requires built { IsBuiltEdit statement.now }
     requires written { IsWritten statement.now }
-    ensures tested { Tested (revision_refusals limits.now c.old.items who.now statement.now)
-        (λ warning. IsRevised c.old.items who.now statement.now warning c.new.items) (c.new.items ≡ c.old.items) result }
-    ensures good { IsGood c.new.items }
+    ensures tested { Tested (revision_refusals limits.now store.old who.now statement.now)
+        (λ warning. IsRevised store.old who.now statement.now warning store.new) (store.new ≡ store.old) result }
+    ensures narrow { IsNarrow store.new limits.now.columns }
 {
-    let plan = plan_of(alloc, c, who, statement)?;
-    let new = outcome(alloc, limits, c, &plan.edit, plan.restrict)?;
-    *c = new;
+    let plan = plan_of(alloc, store.catalogue(), who, statement)?;
+    store.change(alloc, limits, &plan.edit, plan.restrict, steps)?;
     Ok(plan.warning)
 }

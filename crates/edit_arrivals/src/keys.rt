@@ -1,14 +1,14 @@
 //! Keys of items, and of rights that the system could grant and that don't stand.
 
 ghost use Rattle.std.specs.Prelude.{◌≡◌, ◌↔◌, Contains, IfOk, IsTrue};
-ghost use Rattle.cat_items.specs.declared.need.Auth.TheVariants as auths;
 ghost use Rattle.cat_items.specs.Catalogues.{IsInOrder};
 ghost use Rattle.cat_items.specs.Relevant.{IsOptionOn};
-ghost use Rattle.board_graph.specs.BoardKeys.{IsKeyOf, ghost_key};
+ghost use Rattle.board_graph.specs.BoardKeys.{IsKeyOf};
 ghost use Rattle.board_plans.specs.Planning.{IsAddedTo};
 ghost use Rattle.edit_arrivals.specs.Steps as spec;
 
-use cat_items::{Auth, Catalogue, Item, Right, Shared, compare_items, same_item};
+use cat_items::{Catalogue, Item, compare_items, same_item};
+use key_tests::ghost_key;
 use std::alloc::{AllocError, Global};
 
 /// Whether a list in order has an item with all these fields.
@@ -19,31 +19,6 @@ fn has(items: &[Item], x: &Item) -> bool
     match items.binary_search_by(|y| compare_items(y, x)) {
         Ok(at) => same_item(&items[at], x),
         Err(_) => false,
-    }
-}
-
-/// The right of the ghost's key.
-fn ghost_right(right: &Right) -> Result<Right, AllocError>
-    ensures { IfOk result (λ ghost. ghost ≡ record right.now { grantor = right.now.grantee; grantee = auths.System }) }
-{
-    Ok(Right {
-        need: right.need.copy()?,
-        grantor: right.grantee.copy()?,
-        grantee: Auth::System,
-    })
-}
-
-/// The key of the ghost of a right.
-fn ghost_of(alloc: Global, x: &Item) -> Result<Item, AllocError>
-    ensures { IfOk result (λ key. key ≡ ghost_key x.now) }
-{
-    match x {
-        Item::Held(right) => Ok(Item::Held(Shared::new(alloc, ghost_right(right.get())?)?)),
-        Item::Grantable(right) => {
-            let right = ghost_right(right.get())?;
-            Ok(Item::Grantable(Shared::new(alloc, right)?))
-        }
-        _ => x.copy(),
     }
 }
 
@@ -61,7 +36,7 @@ pub fn key_in(
         return Ok(Some(x.copy()?));
     }
     if has(rights, x) {
-        return Ok(Some(ghost_of(alloc, x)?));
+        return Ok(Some(ghost_key(alloc, x)?));
     }
     Ok(None)
 }

@@ -1,3 +1,4 @@
+pub mod LeftLaws
 pub mod TouchedLaws
 pub mod SuspectLaws
 pub mod PossibleLaws

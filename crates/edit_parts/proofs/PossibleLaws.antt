@@ -19,11 +19,11 @@ use Rattle.topic_keys.specs.Lists.{Gets}
 use Rattle.topic_keys.proofs.Adding.{gets_alike, gets_both, gets_none}
 use Rattle.topic_lists.proofs.Runs.{gets_from_none}
 use Rattle.edit_suspects.specs.Seeds.{HaveSpread, of_changed, of_target}
-use Rattle.asked_parts.specs.Parts.{HasAsked, IsPartOf}
+use Rattle.edit_suspects.proofs.GhostKeys.{possible_is_granted}
 use Rattle.asked_parts.specs.Under as under
 use Rattle.asked_parts.proofs.GrowthLaws.{no_longer, once}
 use Rattle.asked_parts.proofs.UnderLaws.{flipped}
-use Rattle.edit_parts.specs.Parts.{AreTouchedItems, IsPossibleSuspect, IsSuspectBy, IsUnlessKept}
+use Rattle.edit_parts.specs.Parts.{AreTouchedItems, HasAllTouched, IsPossibleSuspect, IsSuspectBy, IsUnlessKept}
 use Rattle.edit_parts.specs.Touched.{AreApart, IsTouchedItem, IsTouchedRight}
 use Rattle.edit_parts.proofs.TouchedLaws.{may_is_granted}
 
@@ -89,7 +89,7 @@ right_within part more within r is = (is.0, column r.need.column is.1, by is.2.0
     by (item.Schema z) inside at = (item.Schema z, within (item.Schema z) inside, (at.0, (at.1.0, within at.1.0 at.1.1, at.1.2)))
     by _ inside at = absurd at
 
-possible_within : (part more : List Item) → IsWithin part more → (x : Item) → IsSystemRight part x → IsSystemRight more x
+pub possible_within : (part more : List Item) → IsWithin part more → (x : Item) → IsSystemRight part x → IsSystemRight more x
 possible_within part more within (item.Held r) is = right_within part more within r is
 possible_within part more within (item.Grantable r) is = right_within part more within r is
 possible_within part more within _ is = absurd is
@@ -97,23 +97,19 @@ possible_within part more within _ is = absurd is
 pub fewer_rights : (part more rights all : List Item) → IsWithin part more → IsInOrder rights → ((x : Item) → Contains rights x ↔ IsSystemRight part x) → ((x : Item) → IsSystemRight more x → Contains all x) → length rights ≤ length all
 fewer_rights part more rights all within order are has = no_longer rights all (once rights order) (λ x h. has x (possible_within part more within x ((are x).0 h)))
 
-module _ (g : Graph Item) (edit : Edit) (marks : List ℕ) (mine start : List Item) (mine_are : AreTouchedItems g marks edit mine) (are : AreTouchedItems g marks edit start) where
-  mine_in : (x : Item) → Contains mine x → Contains start x
-  mine_in x h = (are x).1 ((mine_are x).0 h)
+module _ (g : Graph Item) (edit : Edit) (marks : List ℕ) where
+  -- what is touched is in each list that has all
+  pub start_in_all : (start : List Item) → AreTouchedItems g marks edit start → (whole all : List Item) → HasAllTouched g marks edit whole all → IsWithin start all
+  start_in_all start are whole all has x h = has x (elim ((are x).0 h) [ inl t ↦ inl t | inr r ↦ inr (inl r) ])
 
-  in_mine : (x : Item) → Contains start x → Contains mine x
-  in_mine x h = (mine_are x).1 ((are x).0 h)
+  -- and so are the suspects
+  pub suspects_in_all : (part whole all new : List Item) → IsWithin part whole → ((x : Item) → Contains new x ↔ IsSuspectBy g marks edit part x) → HasAllTouched g marks edit whole all → IsWithin new all
+  suspects_in_all part whole all new within by has x h = has x (elim ((by x).0 h) [ inl t ↦ inl t | inr p ↦ inr (inr (possible_within part whole within x p.0, p.1, p.2)) ])
 
-  pub short_start : IsInOrder mine → length mine ≤ length start
-  short_start order = no_longer mine start (once mine order) mine_in
+  -- a suspect is touched, or a right
+  pub further_of : (touched rights start part new : List Item) → ((x : Item) → Contains touched x ↔ IsTouchedItem g marks edit x) → ((x : Item) → Contains start x ↔ (Contains touched x ⊎ Contains rights x))
+      → ((x : Item) → Contains new x ↔ IsSuspectBy g marks edit part x) → (x : Item) → Contains new x → Contains start x ⊎ IsRightOrRoleGrant x
+  further_of touched rights start part new items joined by x h = elim ((by x).0 h) [ inl t ↦ inl ((joined x).1 (inl ((items x).1 t))) | inr p ↦ inr (possible_is_granted part x p.0) ]
 
-  pub my_part : (c part : List Item) → IsPartOf g c marks start part → IsPartOf g c marks mine part
-  my_part c part is = record {
-    order = is.order;
-    has_suspects = λ x h. is.has_suspects x (mine_in x h);
-    from = λ x h. elim (is.from x h) [ inl there ↦ inl (in_mine x there) | inr kept ↦ inr kept ];
-    asked = λ x y t h kept ask under. is.asked x y t (mine_in x h) kept ask under;
-  }
-
-  pub my_keys : (part keys : List Item) → HasAsked part start keys → HasAsked part mine keys
-  my_keys part keys has k of = has k (of.0, mine_in of.0 of.1, of.2)
+pub short_start : (start all : List Item) → IsInOrder start → IsWithin start all → length start ≤ length all
+short_start start all order within = no_longer start all (once start order) within

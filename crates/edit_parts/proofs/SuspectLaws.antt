@@ -41,9 +41,12 @@ use Rattle.edit_suspects.proofs.GhostKeys.{ghost_helps, ghost_no_topic, one_ghos
 use Rattle.edit_suspects.proofs.Spreads.{makes_a_spread, marked_alike, show_number}
 use Rattle.edit_suspects.proofs.Standing.{known_key, row_schema}
 use Rattle.asked_parts.specs.Parts.{IsKept, IsPartOf}
+use Rattle.asked_parts.proofs.AskLaws.{asks_more}
+use Rattle.asked_parts.proofs.RoundLaws.{there_or_not}
 use Rattle.asked_parts.proofs.UnderLaws.{marked, not_marked}
-use Rattle.edit_parts.specs.Parts.{AreTouchedItems, IsPossibleSuspect, IsSuspectBy}
+use Rattle.edit_parts.specs.Parts.{AreBoth, AreTouchedItems, IsLeftOf, IsPossibleSuspect, IsSuspectBy}
 use Rattle.edit_parts.specs.Touched.{IsTouchedItem, IsTouchedRight}
+use Rattle.edit_parts.proofs.TouchedLaws.{may_is_granted}
 
 -- ---- what rights and their objects ask for
 
@@ -142,6 +145,32 @@ module _ (eq : Item → Item → Bool) (g : Graph Item) (c edited : List Item) (
         let spread_f = makes_a_spread eq g c edited edit marks fresh good whole full fit spread are_fresh f with_f in
         let key = known_key c x ((good.with_system.members x).0 (spread_f.known x h e)) in
         shown_by_key x key.0 key.1 own ghost
+
+  -- ---- a part without the touched rights that are no suspects
+
+  -- no touched right is an unmarked item
+  kept_no_right : (y : Item) → IsTouchedRight g marks y → IsKept g c marks y → ⊥
+  kept_no_right y right kept = kept.1.2 (marks_of y y kept.1.0 (of_item kept.0 refl) kept.1.1 (elim right.2.1 [
+    | inl has ↦ shown y y right.0 (of_item kept.0 refl) has right.1
+    | inr has ↦ shown y (ghost_key y) right.0 (ghost_known y right.2.0 right.0 has) has right.1
+  ]))
+
+  pub part_left : (suspects rights all part left : List Item) → ((x : Item) → Contains rights x → IsTouchedRight g marks x) → AreBoth suspects rights all → IsPartOf g c marks all part → IsLeftOf suspects all part left → IsPartOf g c marks suspects left
+  part_left suspects rights all part left touched both is are = record {
+    order = are.0;
+    has_suspects = λ x h. (are.1 x).1 (is.has_suspects x ((both x).1 (inl h)), (λ gone. gone.1 h));
+    from = λ x h. let p = (are.1 x).0 h in elim (is.from x p.0) [
+      | inr kept ↦ inr kept
+      | inl there ↦ (elim ((both x).0 there) [
+        | inl s ↦ inl s
+        | inr r ↦ (elim (there_or_not suspects x (may_is_granted x (touched x r).2.0)) [ inl s ↦ inl s | inr out ↦ absurd (p.1 (there, out)) ])
+      ])
+    ];
+    asked = λ x y t h kept ask by. (are.1 y).1 (
+      is.asked x y t ((both x).1 (inl h)) kept (asks_more left part (λ z i. ((are.1 z).0 i).0) x t ask) by,
+      (λ gone. elim ((both y).0 gone.0) [ inl s ↦ gone.1 s | inr r ↦ kept_no_right y (touched y r) kept ]),
+    );
+  }
 
   module _ (start part : List Item) (are : AreTouchedItems g marks edit start) (is_part : IsPartOf g c marks start part) where
     started : (y : Item) → IsTouchedItem g marks edit y ⊎ IsTouchedRight g marks y → Contains part y

@@ -8,5 +8,5 @@ mod suspects;
 mod touched;
 
 pub use laws::suspects_are_touched_or_possible_for_the_part;
-pub use suspects::suspects_of;
+pub use suspects::{Suspected, suspects_of};
 pub use touched::{TouchedItems, touched_items};

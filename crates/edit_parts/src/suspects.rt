@@ -7,6 +7,8 @@ ghost use Rattle.graph_steps.specs.Steps.{AreNodes};
 ghost use Rattle.cat_items.specs.contracts.item.ItemPartialEq.TheImpl as same;
 ghost use Rattle.cat_items.specs.declared.item.Item.{Item};
 ghost use Rattle.cat_items.specs.declared.need.Auth.TheVariants as auth;
+ghost use Rattle.finite_chains.specs.Chains.{IsWithin};
+ghost use Rattle.cat_items.specs.Batch.{IsWithout};
 ghost use Rattle.cat_items.specs.Catalogues.{IsInOrder};
 ghost use Rattle.cat_items.specs.Fit.{IsFit};
 ghost use Rattle.cat_items.specs.Good.{IsGood};
@@ -19,13 +21,14 @@ ghost use Rattle.topic_keys.specs.Lists.{Gets};
 ghost use Rattle.edit_suspects.specs.Seeds.{HaveSpread};
 ghost use Rattle.edit_suspects.specs.Suspects.{AreFresh, is_suspect};
 ghost use Rattle.asked_parts.specs.Parts.{HasAsked, IsPartOf};
-ghost use Rattle.asked_parts.specs.Under.{look_ups};
+ghost use Rattle.asked_parts.specs.Rounds.{HasAskedAll, IsClosed};
+ghost use Rattle.asked_parts.specs.Under.{AreApart, look_ups};
 ghost use Rattle.edit_parts.specs.Parts as spec;
 ghost use Rattle.edit_parts.specs.Touched.{FitsBoard};
 
 use crate::putting::put_all;
 use crate::touched::{TouchedItems, touched_items};
-use asked_parts::part_of;
+use asked_parts::{Asked, ask_more, part_of};
 use cat_items::{Auth, Catalogue, Edit, Item, Right, Shared};
 use edit_rules::put;
 use indexmap::IndexSet;
@@ -146,29 +149,88 @@ fn joined(alloc: Global, items: &Catalogue, rights: &Catalogue) -> Result<Catalo
     Ok(all)
 }
 
+/// The items of a list but those of another.
+fn without(alloc: Global, all: &Catalogue, out: &Catalogue) -> Result<Catalogue, AllocError>
+    requires { IsWithin out.now.items all.now.items }
+    ensures order { IfOk result (λ rest. IsInOrder rest.items) }
+    ensures members { IfOk result (λ rest. IsWithout all.now.items out.now.items rest.items) }
+{
+    let mut rest = Catalogue::of_sorted(Vec::new(alloc));
+    put_all(all.items(), &mut rest)?;
+    rest.take_out_all(out.items());
+    Ok(rest)
+}
+
+/// Asks for the further suspects too, and takes out of the part the touched rights that are none.
+fn ask_for_rights<S: BuildHasher + Drop, L: Ledger>(
+    alloc: Global,
+    board: &Index<Item, S>,
+    marks: &IndexSet<usize>,
+    start: &Catalogue,
+    rights: &Catalogue,
+    suspects: &Catalogue,
+    asked: Asked,
+    steps: &mut Steps<L>,
+) -> Result<Catalogue, AllocError>
+    requires granted { (x : Item) → Contains rights.now.items x → IsRightOrRoleGrant x }
+    requires start { (x : Item) → Contains start.now.items x → Contains suspects.now.items x ⊎ Contains rights.now.items x }
+    requires rights { IsWithin rights.now.items start.now.items }
+    requires further { (x : Item) → Contains suspects.now.items x → Contains start.now.items x ⊎ IsRightOrRoleGrant x }
+    requires apart { (all : List Item) → spec.AreBoth suspects.now.items rights.now.items all → AreApart board.now marks.now.keys all }
+    requires asked { HasAskedAll board.now marks.now.keys start.now.items asked.part.items asked.keys.items }
+    ensures part { (c : List Item) → HasNoHelper c → IsFullBoard board.now c → IfOk result (λ part. (all whole : List Item) × spec.AreBoth suspects.now.items rights.now.items all × IsPartOf board.now c marks.now.keys all whole × spec.IsLeftOf suspects.now.items all whole part.items) }
+    ensures ticks { (all p keys : List Item) → (IsWithin start.now.items all × IsWithin suspects.now.items all) → IsClosed board.now marks.now.keys all p → HasAsked p all keys
+        → steps.new + (length start.now.items + sum_by (look_ups board.now) asked.keys.items) ≤ steps.old + (length all + sum_by (look_ups board.now) keys) }
+{
+    let _ = start.items();
+    let Asked { mut part, mut keys } = asked;
+    let all = joined(alloc, suspects, rights)?;
+    let more = without(alloc, &all, start)?;
+    ask_more(
+        alloc, board, marks, &all, &more, &mut part, &mut keys, steps,
+    )?;
+    let gone = without(alloc, &all, suspects)?;
+    part.take_out_all(gone.items());
+    Ok(part)
+}
+
+/// The suspects of an edit, and the part of the edited catalogue over which they are judged.
+#[derive(Drop)]
+pub struct Suspected {
+    pub suspects: Catalogue,
+    pub part: Catalogue,
+}
+
 /// The suspects of an edit: the items that it touches and leaves or adds, and of the rights that the system could grant for the edited
-/// list those that are touched, or could not be granted before. It finds them over the part that the touched items ask for: it looks up the
-/// key of each marked number, what `part_of` does, and of each right that the system could grant for the part its node and its ghost's.
-/// `Err` is want of memory.
+/// list those that are touched, or could not be granted before; and all that they ask for. It finds them over the part that the touched items and
+/// rights ask for: it looks up the key of each marked number, what `part_of` does, of each right that the system could grant for that part its node and its
+/// ghost's, and what the suspects among these ask for beside. `Err` is want of memory.
 pub fn suspects_of<S: BuildHasher + Drop, L: Ledger>(
     alloc: Global,
     board: &Index<Item, S>,
     marks: &IndexSet<usize>,
     edit: &Edit,
     steps: &mut Steps<L>,
-) -> Result<Catalogue, AllocError>
+) -> Result<Suspected, AllocError>
     requires nodes { AreNodes board.now marks.now.keys }
     requires fits { FitsBoard board.now edit.now }
     requires spread { HaveSpread board.now edit.now marks.now.keys }
-    ensures suspects { IfOk result (λ suspects. (c edited f fresh : List Item) → IsGood c → IsWhole same.ghosts.eq board.now → IsFullBoard board.now c → IsFit c edit.now edited → IsWithSystem edited f → AreFresh c edited fresh
-        → (x : Item) → Contains suspects.items x ↔ (Contains f x × (is_suspect board.now marks.now.keys edit.now.added fresh x ≡ true))) }
-    ensures ticks { (c start part keys rights : List Item) → HasNoHelper c → IsFullBoard board.now c → spec.AreTouchedItems board.now marks.now.keys edit.now start → IsPartOf board.now c marks.now.keys start part → HasAsked part start keys
-        → ((x : Item) → IsSystemRight part x → Contains rights x) → steps.new ≤ steps.old + (length marks.now.keys + (length start + (sum_by (look_ups board.now) keys + 2 * length rights))) }
+    ensures order { IfOk result (λ found. IsInOrder found.suspects.items) }
+    ensures suspects { IfOk result (λ found. (c edited f fresh : List Item) → IsGood c → IsWhole same.ghosts.eq board.now → IsFullBoard board.now c → IsFit c edit.now edited → IsWithSystem edited f → AreFresh c edited fresh
+        → (x : Item) → Contains found.suspects.items x ↔ (Contains f x × (is_suspect board.now marks.now.keys edit.now.added fresh x ≡ true))) }
+    ensures part { IfOk result (λ found. (c edited fresh : List Item) → IsGood c → IsWhole same.ghosts.eq board.now → IsFullBoard board.now c → IsFit c edit.now edited → AreFresh c edited fresh → IsPartOf board.now c marks.now.keys found.suspects.items found.part.items) }
+    ensures ticks { (c all part keys rights : List Item) → HasNoHelper c → IsFullBoard board.now c → spec.HasAllTouched board.now marks.now.keys edit.now part all → IsPartOf board.now c marks.now.keys all part → HasAsked part all keys
+        → ((x : Item) → IsSystemRight part x → Contains rights x) → steps.new ≤ steps.old + (length marks.now.keys + (length all + (sum_by (look_ups board.now) keys + 2 * length rights))) }
 {
     let TouchedItems { mut items, rights } = touched_items(alloc, board, marks, edit, steps)?;
     let start = joined(alloc, &items, &rights)?;
-    let part = part_of(alloc, board, marks, &start, steps)?;
-    let rights = system_items(alloc, &part)?;
-    put_suspects(alloc, board, marks, rights.as_slice(), &mut items, steps)?;
-    Ok(items)
+    let asked = part_of(alloc, board, marks, &start, steps)?;
+    let possible = system_items(alloc, &asked.part)?;
+    put_suspects(alloc, board, marks, possible.as_slice(), &mut items, steps)?;
+    let part = ask_for_rights(alloc, board, marks, &start, &rights, &items, asked, steps)?;
+    let _ = items.items();
+    Ok(Suspected {
+        suspects: items,
+        part,
+    })
 }

@@ -28,7 +28,7 @@ use Rattle.topic_keys.specs.Homes.{IsHome, IsHomeOf}
 use Rattle.topic_keys.specs.Lists.{Gets, IsKeyWhere}
 use Rattle.topic_keys.proofs.Adding.{IsOfSome, gets_alike, gets_both, gets_none, gets_one}
 use Rattle.topic_keys.proofs.HomeLaws.{homes_are}
-use Rattle.edit_suspects.specs.Helpers.{ghost_of, is_helper, may_be_ghost}
+use Rattle.key_tests.specs.Tests.{ghost_of, is_helper, may_be_ghost}
 use Rattle.edit_suspects.specs.Seeds.{AreTouched, HaveSpread, IsAddedKey, IsKeyOfAdded, IsNumber, IsNumberOf, IsSeedKey, of_added, of_changed, of_ghost, of_item, of_target, of_topic}
 
 -- ---- sameness of items

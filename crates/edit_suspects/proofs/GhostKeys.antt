@@ -1,44 +1,18 @@
--- What the tests of helpers and of ghosts tell, and that ghosts' keys are apart.
-use Rattle.std.proofs.Common.{◌≡◌, true, false, List, ap, sym, refl, ◌∙◌, subst, true≢false}
-use Rattle.std.specs.Prelude.{Decides}
+-- What the tests of helpers and of ghosts tell, and that ghosts' keys are apart. What `key_tests` has of these is passed on.
+use Rattle.std.proofs.Common.{◌≡◌, true, List, ap, sym, refl, ◌∙◌, subst, true≢false}
 use Rattle.cat_items.specs.declared.need.Auth.{Auth}
 use Rattle.cat_items.specs.declared.need.Auth.TheVariants.{System, Public, Named}
 use Rattle.cat_items.specs.declared.item.Right.{Right}
 use Rattle.cat_items.specs.declared.item.Item.{Item}
 use Rattle.cat_items.specs.declared.item.Item.TheVariants as item
-use Rattle.cat_items.specs.Survivors.{MayBeSystemSchema, MayBeSystemRight, IsSystemRight}
+use Rattle.cat_items.specs.Survivors.{IsSystemRight}
 use Rattle.cascade_laws.specs.Topics.{Topic, held, role_auth}
 use Rattle.edit_rules.specs.Chosen.{IsRightOrRoleGrant}
 use Rattle.board_graph.specs.BoardKeys.{IsHelper, IsPlace, ghost_key, topic_key}
 use Rattle.board_graph.specs.Boards.{IsOwnTopic}
-use Rattle.edit_suspects.specs.Helpers.{is_by_system, is_helper, is_place, is_public, may_be_ghost}
-
-never : {P : Type 0} → (P → ⊥) → Decides false P
-never none = (λ e. absurd (true≢false (sym e)), λ p. absurd (none p))
-
-always : {P : Type 0} → P → Decides true P
-always p = (λ e. p, λ q. refl)
-
-place_is : (a b : Auth) → Decides (is_place a b) (IsPlace a b)
-place_is Public b = always tt
-place_is System System = always tt
-place_is (Named name) System = always tt
-place_is System Public = never (λ p. p)
-place_is System (Named name) = never (λ p. p)
-place_is (Named name) Public = never (λ p. p)
-place_is (Named name) (Named other) = never (λ p. p)
-
-public_is : (a : Auth) → Decides (is_public a) (a ≡ Public)
-public_is Public = always refl
-public_is System = never (λ e. cc)
-public_is (Named name) = never (λ e. cc)
-
-pub helper_is : (x : Item) → Decides (is_helper x) (IsHelper x)
-helper_is (item.RoleAuth g) = public_is g.grantor
-helper_is (item.RoleAdmin g) = public_is g.grantor
-helper_is (item.Held r) = place_is r.grantor r.grantee
-helper_is (item.Grantable r) = place_is r.grantor r.grantee
-helper_is _ = never (λ p. p)
+use Rattle.key_tests.specs.Tests.{is_by_system, may_be_ghost}
+pub use Rattle.key_tests.proofs.HelperKeys.{helper_is}
+pub use Rattle.key_tests.proofs.PossibleRights.{possible_is_ghost}
 
 pub helper_is_granted : (x : Item) → IsHelper x → IsRightOrRoleGrant x
 helper_is_granted (item.RoleAuth g) is = tt
@@ -58,19 +32,6 @@ given_is (Named name) b e = absurd (true≢false (sym e))
 
 given_grantor : (a b : Auth) → is_by_system a b ≡ true → a ≡ System
 given_grantor a b e = (given_is a b e).0
-
--- the grantee of a right that the system could grant has a name
-by_system : (c : List Item) (r : Right) → MayBeSystemRight c r → is_by_system r.grantor r.grantee ≡ true
-by_system c r is = by is.2.0 is.2.2
-  where
-    by : (z : Item) → MayBeSystemSchema c r z → is_by_system r.grantor r.grantee ≡ true
-    by (item.Schema z) h = ap (λ a. is_by_system a r.grantee) is.0 ∙ ap (is_by_system System) h.0
-    by _ h = absurd h
-
-pub possible_is_ghost : (c : List Item) (x : Item) → IsSystemRight c x → may_be_ghost x ≡ true
-possible_is_ghost c (item.Held r) is = by_system c r is
-possible_is_ghost c (item.Grantable r) is = by_system c r is
-possible_is_ghost c _ is = absurd is
 
 pub possible_is_granted : (c : List Item) (x : Item) → IsSystemRight c x → IsRightOrRoleGrant x
 possible_is_granted c (item.Held r) is = tt

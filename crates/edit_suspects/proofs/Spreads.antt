@@ -34,13 +34,15 @@ use Rattle.board_marks.proofs.OwnTopics.{own_or_option}
 use Rattle.board_marks.proofs.Spreads.{by_topic}
 use Rattle.topic_keys.specs.Homes.{IsHome}
 use Rattle.topic_keys.proofs.HomeLaws.{homes_are}
-use Rattle.edit_suspects.specs.Helpers.{is_helper, may_be_ghost}
+use Rattle.key_tests.specs.Tests.{is_helper, may_be_ghost}
 use Rattle.edit_suspects.specs.Seeds.{HaveSpread, IsSeedKey, of_added, of_changed, of_ghost, of_target, of_topic}
 use Rattle.edit_suspects.specs.Seeds as seeds
 use Rattle.edit_suspects.specs.Suspects.{AreFresh, HasMarkedKey, has_mark, is_alike, is_among, is_suspect}
 use Rattle.edit_suspects.proofs.Alikes.{alike_itself, any_from, one_place, right_among, same_from, same_to, some_of, under_alike}
 use Rattle.edit_suspects.proofs.Fresh.{not_name, not_need, part_before}
-use Rattle.edit_suspects.proofs.GhostKeys.{ghost_helps, ghost_is_granted, ghost_no_topic, helper_is, helper_is_granted, one_ghost, possible_is_ghost, possible_is_granted}
+use Rattle.edit_suspects.proofs.GhostKeys.{ghost_helps, ghost_is_granted, ghost_no_topic, helper_is_granted, one_ghost, possible_is_granted}
+use Rattle.key_tests.proofs.HelperKeys.{helper_is}
+use Rattle.key_tests.proofs.PossibleRights.{possible_is_ghost}
 use Rattle.edit_suspects.proofs.Standing.{IsKnown, key_is_known, known_key, option_known}
 
 -- ---- marks

@@ -9,7 +9,7 @@ use Rattle.board_graph.specs.BoardKeys.{ghost_key, topic_key}
 use Rattle.board_marks.specs.Marks.{AreClosed, IsMarked}
 use Rattle.link_marks.specs.Reached.{AreReached}
 use Rattle.topic_keys.specs.Homes.{IsHome}
-use Rattle.edit_suspects.specs.Helpers.{is_helper, may_be_ghost}
+use Rattle.key_tests.specs.Tests.{is_helper, may_be_ghost}
 
 -- a key by which a board may know an added item already: the item's own, that of its ghost, or that of a topic under which it stands
 pub data IsAddedKey (x k : Item) : Type 0 where

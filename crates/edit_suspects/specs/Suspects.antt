@@ -9,7 +9,7 @@ use Rattle.cat_items.specs.declared.item.Item.TheVariants as item
 use Rattle.cat_items.specs.Order.{item_cmp, name_cmp}
 use Rattle.cat_items.specs.Survivors.{IsSystemRight}
 use Rattle.board_graph.specs.BoardKeys.{IsKeyOf, ghost_key}
-use Rattle.edit_suspects.specs.Helpers.{is_helper, may_be_ghost}
+use Rattle.key_tests.specs.Tests.{is_helper, may_be_ghost}
 
 abbrev pub has_same_name : Item → Item → Bool
 has_same_name (item.Column a) (item.Column b) = is_eq (name_cmp a.name b.name)

@@ -1,7 +1,6 @@
 //! What an edit touches on the board of its catalogue, and that this is a spread of suspicion.
 #![tactic(auto)]
 
-mod ghosts;
 mod laws;
 mod seeds;
 mod touching;

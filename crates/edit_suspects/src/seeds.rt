@@ -4,12 +4,12 @@ ghost use Rattle.std.specs.Prelude.{◌≡◌, ◌≤◌, ◌+◌, ◌*◌, Cont
 ghost use Rattle.cat_items.specs.contracts.item.ItemPartialEq.TheImpl as same;
 ghost use Rattle.topic_keys.specs.Homes.{IsHome};
 ghost use Rattle.topic_keys.specs.Lists.{Gets, IsKeyWhere};
-ghost use Rattle.edit_suspects.specs.Helpers as helpers;
+ghost use Rattle.key_tests.specs.Tests as helpers;
 ghost use Rattle.edit_suspects.specs.Seeds as spec;
 
-use crate::ghosts::{ghost_of, is_helper};
 use cat_items::Item;
 use item_index::{Index, Steps};
+use key_tests::{ghost_of, is_helper};
 use std::alloc::{AllocError, Global};
 use std::hash::BuildHasher;
 use std::sync::ledger::Ledger;

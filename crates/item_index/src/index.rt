@@ -217,6 +217,13 @@ impl<K: Eq + Hash + Drop, S: BuildHasher + Drop> Index<K, S> {
         self.rests.get(node, at)
     }
 
+    /// What the type keeps of each index, for who calls for it in a proof. No look-up. No memory.
+    pub fn keeps_whole(&self)
+        ensures { IsWhole K.eq self.now }
+    {
+        let _ = &self.free;
+    }
+
     /// Puts in a key that isn't there, and returns its number: that which was freed last, or else the next new
     /// one. No memory.
     pub fn insert(&mut self, key: K) -> usize

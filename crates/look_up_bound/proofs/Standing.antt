@@ -142,7 +142,7 @@ module _ (all s : List Item) (kept : (o : Object) (k : Column) → Contains s (i
   object_there action.Delete path t h e = at t (on.table path) h e
   object_there action.References path t h e = at t (on.table path) h e
 
-  need_there : (need : Need) (t : Topic) → Stands s need → IsNeedTopic need t → HasParts s t
+  pub need_there : (need : Need) (t : Topic) → Stands s need → IsNeedTopic need t → HasParts s t
   need_there need t h (inl e) = object_there need.action need.on t h.0 e
   need_there need t h (inr e) = at t (on.column need.on e.0) (subst (HasColumn s need.on) e.1 h.1) e.2
 
@@ -267,7 +267,7 @@ module _ (all s : List Item) (kept : (o : Object) (k : Column) → Contains s (i
   right_need_there grantable r Public e stands may need is = absurd may
   right_need_there grantable r (Named name) e stands may need is = inl (subst (Stands s) (sym is) stands)
 
-  sought_stands : (x : Item) → HasDerivedFields x → Supported all s x → (need : Need) → IsNeedOf s x need → Stands s need ⊎ CanDoWithout x
+  pub sought_stands : (x : Item) → HasDerivedFields x → Supported all s x → (need : Need) → IsNeedOf s x need → Stands s need ⊎ CanDoWithout x
   sought_stands (item.Table o) d h need is = inr (inr (o, refl))
   sought_stands (item.Held r) d h need is = elim (right_need_there false r r.grantor refl h.1 h.3 need is) [ inl stands ↦ inl stands | inr system ↦ inr (inl system) ]
   sought_stands (item.Grantable r) d h need is = elim (right_need_there true r r.grantor refl h.0.1 h.0.3 need is) [ inl stands ↦ inl stands | inr system ↦ inr (inl system) ]
@@ -301,7 +301,7 @@ module _ (all s : List Item) (kept : (o : Object) (k : Column) → Contains s (i
   asked_stands x there d h t (asks.of_edges a name seeks way e) = inl (at t (on.edges name) tt e)
   asked_stands x there d h t (asks.of_admins a role name grants acts way e) = inl (at t (on.admins role name) tt e)
 
-parts_more : (c u : List Item) → IsWithin c u → (t : Topic) → HasParts c t → HasParts u t
+pub parts_more : (c u : List Item) → IsWithin c u → (t : Topic) → HasParts c t → HasParts u t
 parts_more c u within (on.supply need g) h = stands_more c u within need h
 parts_more c u within (on.edges name) h = h
 parts_more c u within (on.admins role name) h = h

@@ -63,7 +63,7 @@ row_column name column r (item.View v) _ e row is = absurd is
 row_column name column r _ k e row is = absurd row
 
 module _ (u c : List Item) (edit : Edit) (edited : List Item) (fit : IsFit c edit edited) (spoken : (y : Item) → Contains u y ↔ IsSpokenOf c edit edited y)
-    (tells_target : (y : Item) → Contains edit.target y ⊎ (¬ (Contains edit.target y))) (tells_changed : (y : Item) → Contains edit.changed y ⊎ (¬ (Contains edit.changed y))) where
+    (tells_target : (y : Item) → Contains c y → Contains edit.target y ⊎ (¬ (Contains edit.target y))) (tells_changed : (y : Item) → Contains c y → Contains edit.changed y ⊎ (¬ (Contains edit.changed y))) where
   old_there : IsWithin c u
   old_there y h = (spoken y).1 (inl h)
 
@@ -73,9 +73,9 @@ module _ (u c : List Item) (edit : Edit) (edited : List Item) (fit : IsFit c edi
   -- an old item stands after the edit, or is a suspect
   stays_or_suspect : (y : Item) → Contains c y → Contains edited y ⊎ IsSuspect u edit y
   stays_or_suspect y h =
-      elim (tells_target y) [
+      elim (tells_target y h) [
         | inl gone ↦ inr (bound.of_target y gone)
-        | inr stays ↦ (elim (tells_changed y) [
+        | inr stays ↦ (elim (tells_changed y h) [
           | inl other ↦ inr (bound.of_changed y other)
           | inr same ↦ inl ((fit.is_edited.members y).1 (inl (h, stays, same)))
         ])

@@ -78,10 +78,10 @@ pub fn items_under_topics_asked_for_are_few()
         → sum_by (λ t. length (under t)) topics ≤ 2 * n }
 {}
 
-/// What an edit touches is a suspect, or a right by the system whose object or column is a suspect, where it can be told what the
-/// edit destroys and changes.
+/// What an edit touches is a suspect, or a right by the system whose object or column is a suspect, where it can be told what of the
+/// catalogue the edit destroys and changes.
 pub fn what_is_touched_is_suspect_or_paid_for()
-    ensures { (u c : List Item) (edit : Edit) (edited : List Item) → IsFit c edit edited → ((y : Item) → Contains u y ↔ IsSpokenOf c edit edited y) → ((y : Item) → Contains edit.target y ⊎ (¬ (Contains edit.target y))) → ((y : Item) → Contains edit.changed y ⊎ (¬ (Contains edit.changed y)))
+    ensures { (u c : List Item) (edit : Edit) (edited : List Item) → IsFit c edit edited → ((y : Item) → Contains u y ↔ IsSpokenOf c edit edited y) → ((y : Item) → Contains c y → Contains edit.target y ⊎ (¬ (Contains edit.target y))) → ((y : Item) → Contains c y → Contains edit.changed y ⊎ (¬ (Contains edit.changed y)))
         → (x : Item) → IsTouched c edit edited x → (Contains u x × IsSuspect u edit x) ⊎ IsPaidFor u c edit x }
 {}
 

@@ -6,5 +6,5 @@ mod taken;
 mod width;
 
 pub use edits::new_catalogue;
-pub use taken::further;
+pub use taken::{further, has};
 pub use width::columns_beyond;

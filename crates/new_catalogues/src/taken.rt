@@ -8,8 +8,8 @@ ghost use Rattle.new_catalogues.specs.Further.{IsLeastFurther};
 
 use cat_items::{Catalogue, Edit, Item, compare_items, same_item};
 
-/// Whether a list in order has an item with all these fields.
-fn has(items: &[Item], x: &Item) -> bool
+/// Whether a list in order has an item with all these fields, and not with its key alone. It takes no memory.
+pub fn has(items: &[Item], x: &Item) -> bool
     requires { IsInOrder items.now }
     ensures { IsTrue result ↔ Contains items.now x.now }
 {

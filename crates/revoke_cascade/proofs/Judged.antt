@@ -1,5 +1,5 @@
 -- What is found of an edit's part stands in the new catalogue, and makes a plan for its board.
-use Rattle.std.proofs.Common.{◌≡◌, ◌⊎◌, inl, inr, ℕ, Bool, false, not, ◌||◌, List, subst}
+use Rattle.std.proofs.Common.{◌≡◌, ◌⊎◌, inl, inr, ℕ, Bool, true, false, not, ◌||◌, List, refl, subst}
 use Rattle.std.specs.Prelude.{Decides}
 use Rattle.std.specs.List.{Contains, filter}
 use Rattle.std.specs.Ordering.{is_eq}
@@ -7,6 +7,7 @@ use Rattle.std.specs.Cmp.{Equal-is}
 use Rattle.std.specs.declared.cmp.Ordering.TheVariants.{Equal}
 use Rattle.std.proofs.lemmas.Bool.{not-true, not_from_false}
 use Rattle.std.proofs.lemmas.Bool.Decides.{Decides-or}
+use Rattle.finite_chains.specs.Chains.{IsWithin}
 use Rattle.finite_chains.proofs.Members.{Contains-filter, filter_passes_one}
 use Rattle.finite_chains.proofs.StrictOrders.{IsRising-filter}
 use Rattle.item_index.specs.Graphs.{Graph}
@@ -40,7 +41,7 @@ use Rattle.board_plans.specs.declared.plan.Plan.{Plan}
 use Rattle.board_plans.specs.Planning.{AreArrivals, CanPlan}
 use Rattle.board_changes.specs.Readiness.{IsPlanned}
 use Rattle.edit_arrivals.specs.Suspects.{IsFoundBy}
-use Rattle.revoke_cascade.specs.Prepared.{AreJudged, IsFoundOf}
+use Rattle.revoke_cascade.specs.Prepared.{AreJudged, IsFoundOf, Tells}
 use Rattle.revoke_cascade.proofs.Known as known
 
 pub is_planned : (g : Graph Item) (c new : List Item) (suspect : Item → Bool) (marks : List ℕ) (arrivals : List Arrival) (plan : Plan) → CanPlan same.ghosts.eq g c new suspect marks arrivals
@@ -170,3 +171,25 @@ module _ (g : Graph Item) (c edited f : List Item) (edit : Edit) (marks : List �
       touched_are = known.touched_are g c edited f edit marks fresh suspects judged.known;
       arrivals_are = are;
     }
+
+    -- what the edit leaves is a suspect, or stands
+    left : (x : Item) → Contains c x → (¬ (Contains edit.target x)) → (¬ (Contains edit.changed x)) → Contains suspects x ⊎ Contains new x
+    left x h target changed = by (suspect x) refl
+      where
+        by : (b : Bool) → suspect x ≡ b → Contains suspects x ⊎ Contains new x
+        by true e = inl ((judged.known.listed.members x).1 (known.left_in g c edited f edit marks fresh suspects judged.known x h target changed, e))
+        by false e = inr ((found_by.is_found.members x).1 (inr (h, e)))
+
+    only : (x : Item) → Contains found x → Contains suspects x ⊎ Contains c x
+    only x h =
+        let p = place_of_marked part rescue x h in
+        elim (judged.part_is.from x (p.0, p.1.low, p.1.is)) [
+          | inl was ↦ inl was
+          | inr kept ↦ inr ((told.others x).0 kept).0
+        ]
+
+    added : IsWithin edit.added suspects
+    added x h = (judged.known.listed.members x).1 ((judged.known.on.with_system.members x).1 (inl ((judged.known.on.fit.is_edited.members x).1 (inr h))), is_spread.added x h)
+
+    pub tells : Tells c edit suspects found new
+    tells = record { has = found_of; left = left; only = only; added = added }

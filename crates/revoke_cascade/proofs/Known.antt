@@ -98,7 +98,7 @@ module _ (g : Graph Item) (c edited f : List Item) (edit : Edit) (marks : List �
   no_changed : (x : Item) → suspect x ≡ false → ¬ (Contains edit.changed x)
   no_changed x clear h = both_ways (suspect x) clear (is_spread.changed x h)
 
-  left_in : (x : Item) → Contains c x → (¬ (Contains edit.target x)) → (¬ (Contains edit.changed x)) → Contains f x
+  pub left_in : (x : Item) → Contains c x → (¬ (Contains edit.target x)) → (¬ (Contains edit.changed x)) → Contains f x
   left_in x h target changed = (known.on.with_system.members x).1 (inl ((known.on.fit.is_edited.members x).1 (inl (h, target, changed))))
 
   pub stays : (x : Item) → Contains c x → suspect x ≡ false → Contains f x

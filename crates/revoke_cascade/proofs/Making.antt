@@ -14,11 +14,9 @@ use Rattle.cat_items.specs.Survivors.{IsWithSystem}
 use Rattle.cat_items.specs.Supported.{Supported}
 use Rattle.part_rounds.specs.Grown.{Grows}
 use Rattle.part_rounds.specs.Grown as on
-use Rattle.board_steps.specs.Plans.{HasNoHelper, IsFullBoard}
-use Rattle.board_steps.proofs.Edited.{good_apart}
+use Rattle.board_steps.specs.Plans.{IsFullBoard}
 use Rattle.edit_suspects.specs.Seeds.{AreTouched}
 use Rattle.edit_suspects.specs.Suspects.{AreFresh, is_suspect}
-use Rattle.asked_parts.specs.Under.{AreApart}
 use Rattle.asked_parts.specs.Parts.{IsPartOf}
 use Rattle.part_rescue.specs.Rescued.{AreRescued}
 use Rattle.board_plans.specs.declared.arrivals.Arrival.{Arrival}
@@ -29,9 +27,9 @@ use Rattle.graph_changes.specs.Ends.{links_of}
 use Rattle.edit_rules.specs.Chosen.{AreChosen}
 use Rattle.edit_arrivals.specs.Suspects.{IsFoundBy}
 use Rattle.finite_chains.specs.Chains.{IsWithin}
-use Rattle.revoke_cascade.specs.Prepared.{AreKnown, IsEditOn, IsFoundIn, IsFoundOf, IsJudgement, IsFitOn, FitsSome, IsOutcome}
-use Rattle.revoke_cascade.proofs.Known.{are_apart, fresh_rights}
-use Rattle.revoke_cascade.proofs.Judged.{can_plan, found_by, found_of, is_planned, makes_new}
+use Rattle.revoke_cascade.specs.Prepared.{AreKnown, IsEditOn, IsFoundIn, IsJudgement, IsFitOn, FitsSome, IsOutcome, Tells}
+use Rattle.revoke_cascade.proofs.Known.{fresh_rights}
+use Rattle.revoke_cascade.proofs.Judged.{can_plan, found_by, is_planned, makes_new, tells}
 use Rattle.revoke_cascade.proofs.Rights.{with_system}
 
 -- ---- marks
@@ -64,23 +62,27 @@ pub known_of : (g : Graph Item) (edit : Edit) (marks : List ℕ) (suspects : Lis
     → (c edited f fresh : List Item) → IsEditOn g c edited f edit → AreFresh c edited fresh → AreKnown g c edited f edit marks fresh suspects
 known_of g edit marks suspects touched order lists c edited f fresh on are_fresh = record { on = on; touched = touched; are_fresh = are_fresh; listed = record { order = order; members = lists c edited f fresh on are_fresh } }
 
-pub fits_apart : (g : Graph Item) (edit : Edit) (marks : List ℕ) (suspects : List Item) → FitsSome g edit → AreTouched same.ghosts.eq g edit marks → IsInOrder suspects → ListsSuspects g edit marks suspects → AreApart g marks suspects
-fits_apart g edit marks suspects fits touched order lists =
-    let all = fit_on g fits.0 fits.1 edit fits.2 in
-    let fresh = fresh_rights g fits.0 fits.1 all.0 edit all.1 in
-    are_apart g fits.0 fits.1 all.0 edit marks fresh.0 suspects (known_of g edit marks suspects touched order lists fits.0 fits.1 all.0 fresh.0 all.1 fresh.1)
+-- what a part for the suspects is to be
+abbrev pub IsPartFor : Graph Item → Edit → List ℕ → List Item → List Item → Type 0
+IsPartFor g edit marks suspects part = (c edited f fresh : List Item) → IsEditOn g c edited f edit → AreFresh c edited fresh → IsPartOf g c marks suspects part
+
+pub part_for : (g : Graph Item) (edit : Edit) (marks : List ℕ) (suspects part : List Item)
+    → ((c edited fresh : List Item) → IsGood c → IsWhole same.ghosts.eq g → IsFullBoard g c → IsFit c edit edited → AreFresh c edited fresh → IsPartOf g c marks suspects part) → IsPartFor g edit marks suspects part
+part_for g edit marks suspects part is c edited f fresh on are_fresh = is c edited fresh on.good on.whole on.full on.fit are_fresh
 
 -- the part has the suspects
-pub fits_within : (g : Graph Item) (edit : Edit) (marks : List ℕ) (suspects part : List Item) → FitsSome g edit → ((c : List Item) → HasNoHelper c → IsFullBoard g c → IsPartOf g c marks suspects part) → IsWithin suspects part
-fits_within g edit marks suspects part fits is = (is fits.0 (good_apart fits.0 fits.2.good) fits.2.full).has_suspects
+pub fits_within : (g : Graph Item) (edit : Edit) (marks : List ℕ) (suspects part : List Item) → FitsSome g edit → IsPartFor g edit marks suspects part → IsWithin suspects part
+fits_within g edit marks suspects part fits is =
+    let all = fit_on g fits.0 fits.1 edit fits.2 in
+    let fresh = fresh_rights g fits.0 fits.1 all.0 edit all.1 in
+    (is fits.0 fits.1 all.0 fresh.0 all.1 fresh.1).has_suspects
 
-pub judgement : (g : Graph Item) (edit : Edit) (marks : List ℕ) (suspects part found : List Item) → AreTouched same.ghosts.eq g edit marks → IsInOrder suspects → ListsSuspects g edit marks suspects
-    → ((c : List Item) → HasNoHelper c → IsFullBoard g c → IsPartOf g c marks suspects part) → IsFoundIn part suspects found
+pub judgement : (g : Graph Item) (edit : Edit) (marks : List ℕ) (suspects part found : List Item) → AreTouched same.ghosts.eq g edit marks → IsInOrder suspects → ListsSuspects g edit marks suspects → IsPartFor g edit marks suspects part → IsFoundIn part suspects found
     → (c edited f fresh : List Item) → IsEditOn g c edited f edit → AreFresh c edited fresh → IsJudgement g c edited f edit marks fresh suspects found
 judgement g edit marks suspects part found touched order lists is rescue c edited f fresh on are_fresh = (
   part,
   rescue.0,
-  record { known = known_of g edit marks suspects touched order lists c edited f fresh on are_fresh; part_is = is c (good_apart c on.good) on.full; rescued = rescue.1 },
+  record { known = known_of g edit marks suspects touched order lists c edited f fresh on are_fresh; part_is = is c edited f fresh on are_fresh; rescued = rescue.1 },
   rescue.2,
 )
 
@@ -113,7 +115,7 @@ outcome g edit marks suspects found arrivals plan judges arrive plans c edited f
       record {
         made = to.1;
         planned = (suspect, is_planned g c new suspect marks arrivals plan can (plans c new suspect can));
-        has = subst (λ l. IsFoundOf c edit suspects l new) (sym is.3) (found_of g c edited f edit marks fresh.0 suspects is.0 is.1 is.2 new to.1);
+        tells = subst (λ l. Tells c edit suspects l new) (sym is.3) (tells g c edited f edit marks fresh.0 suspects is.0 is.1 is.2 new to.1);
       },
     )
 

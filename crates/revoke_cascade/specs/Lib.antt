@@ -1,1 +1,3 @@
+pub mod Boards
+pub mod Effects
 pub mod Prepared

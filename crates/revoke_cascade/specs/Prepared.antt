@@ -1,6 +1,7 @@
 -- An edit on the board of its catalogue, and what is made ready of it.
 use Rattle.std.specs.Prelude.{◌≡◌, ◌↔◌, ◌⊎◌, ℕ, Bool, true, List}
 use Rattle.std.specs.List.{Contains}
+use Rattle.finite_chains.specs.Chains.{IsWithin}
 use Rattle.item_index.specs.Graphs.{Graph, IsWhole}
 use Rattle.cat_items.specs.declared.edit.Edit.{Edit}
 use Rattle.cat_items.specs.declared.item.Item.{Item}
@@ -62,8 +63,17 @@ IsJudgement g c edited f edit marks fresh suspects found = (part : List Item) ×
 abbrev pub IsFoundOf : List Item → Edit → List Item → List Item → List Item → Type 0
 IsFoundOf c edit suspects found new = (x : Item) → Contains new x ↔ (Contains found x ⊎ (Contains c x × (¬ (Contains edit.target x)) × (¬ (Contains edit.changed x)) × (¬ (Contains suspects x))))
 
+-- What the suspects and what was found tell of the new catalogue.
+pub record Tells (c : List Item) (edit : Edit) (suspects found new : List Item) : Type 0 where
+  pub has : IsFoundOf c edit suspects found new
+  -- what the edit leaves is a suspect, or stands
+  pub left : (x : Item) → Contains c x → (¬ (Contains edit.target x)) → (¬ (Contains edit.changed x)) → Contains suspects x ⊎ Contains new x
+  -- what was found is a suspect, or old
+  pub only : (x : Item) → Contains found x → Contains suspects x ⊎ Contains c x
+  pub added : IsWithin edit.added suspects
+
 -- The edit makes a new catalogue, which has what was found, and the plan makes its board.
 pub record IsOutcome (g : Graph Item) (c : List Item) (edit : Edit) (new : List Item) (plan : Plan) (suspects found : List Item) : Type 0 where
   pub made : IsNew c edit new
   pub planned : (suspect : Item → Bool) × IsPlanned same.ghosts.eq g c new suspect plan
-  pub has : IsFoundOf c edit suspects found new
+  pub tells : Tells c edit suspects found new

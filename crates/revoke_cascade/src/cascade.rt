@@ -1,86 +1,78 @@
-//! An edit is made ready: what it touches, what stands, and the plan for its board.
+//! Cascades: edits that are ready on the board of their catalogue.
 
-ghost use Rattle.std.specs.Prelude.{◌≡◌, List, IfOk, length};
-ghost use Rattle.std.specs.List.{All};
+ghost use Rattle.std.specs.Prelude.{◌≡◌, ◌≤◌, IfOk, List, vec_len};
 ghost use Rattle.item_index.specs.Graphs.{with_spare};
-ghost use Rattle.graph_changes.specs.Ends.{ArePlaced};
-ghost use Rattle.cat_items.specs.contracts.item.ItemPartialEq.TheImpl as same;
+ghost use Rattle.cat_items.specs.declared.edit.Edit.{Edit};
 ghost use Rattle.cat_items.specs.declared.item.Item.{Item};
-ghost use Rattle.board_changes.specs.Readiness.{IsReady};
-ghost use Rattle.revoke_cascade.specs.Prepared.{FitsSome, IsFitOn, IsOutcome};
+ghost use Rattle.cat_items.specs.Fit.{IsFit};
+ghost use Rattle.cat_items.specs.Good.{IsGood};
+ghost use Rattle.board_graph.specs.Boards.{Holds};
+ghost use Rattle.revoke_cascade.specs.Boards.{IsCascade, IsTaken};
 
-use crate::judging::{Judged, judge};
-use board_changes::{Ready, make_ready};
-use board_plans::{Plan, plan_of};
-use cat_items::{Catalogue, Edit, Item};
-use edit_arrivals::arrivals;
-use edit_suspects::touched;
-use item_index::{Index, Steps};
+use crate::board::Board;
+use crate::effects::effects_of;
+use board_changes::{Ran, Ready};
+use cat_items::{Catalogue, Edit};
+use catalogue_changes::Effects;
+use item_index::Steps;
 use std::alloc::{AllocError, Global};
 use std::sync::ledger::Ledger;
 
-/// The plan of an edit, with what it goes by.
-#[derive(Drop)]
-struct Planned {
-    pub plan: Plan,
-    pub found: Catalogue,
-    pub suspects: Catalogue,
-}
-
-/// Finds what the edit touches, judges it, and makes the plan for the board.
-fn make_plan<L: Ledger>(
-    alloc: Global,
-    board: &Index<Item>,
-    edit: &Edit,
-    steps: &mut Steps<L>,
-) -> Result<Planned, AllocError>
-    requires { FitsSome board.now edit.now }
-    ensures outcome { IfOk result (λ planned. (c edited : List Item) → IsFitOn board.now c edited edit.now → (new : List Item) × IsOutcome board.now c edit.now new planned.plan planned.suspects.items planned.found.items) }
-    ensures placed { IfOk result (λ planned. All (ArePlaced (length planned.plan.keys.items)) planned.plan.links.items) }
-{
-    let marks = touched(alloc, board, edit, steps)?;
-    let Judged { suspects, found } = judge(alloc, board, &marks, edit, steps)?;
-    let arriving = arrivals(alloc, &found, &suspects)?;
-    let plan = plan_of(alloc, board, &marks, arriving.as_slice(), steps)?;
-    Ok(Planned {
-        plan,
-        found,
-        suspects,
-    })
-}
-
-/// An edit that is ready: `board_changes::run` carries it out, without memory.
+/// An edit that is ready on the board of its catalogue, and what it does beyond what it says.
 #[derive(Drop)]
 pub struct Cascade {
+    pub effects: Effects,
     pub ready: Ready,
-    /// What stands of the suspects, and of what was asked for to judge them.
-    pub found: Catalogue,
-    /// What the edit could touch, of what it makes of the catalogue and of the rights that the system could grant for it.
-    pub suspects: Catalogue,
 }
 
-/// Makes an edit ready on the board of its catalogue, with all memory that it takes to carry it out and to take it back. The board stays as it
-/// is, but for more room. `Err` is want of memory.
-pub fn prepare<L: Ledger>(
-    alloc: Global,
-    board: &mut Index<Item>,
-    edit: &Edit,
-    steps: &mut Steps<L>,
-) -> Result<Cascade, AllocError>
-    requires { FitsSome board.old edit.now }
-    ensures board { board.new ≡ with_spare board.old board.new.spare_keys board.new.spare_links }
-    ensures ready { IfOk result (λ cascade. IsReady same.ghosts.eq board.new cascade.ready) }
-    ensures outcome { IfOk result (λ cascade. (c edited : List Item) → IsFitOn board.old c edited edit.now → (new : List Item) × IsOutcome board.new c edit.now new cascade.ready.plan cascade.suspects.items cascade.found.items) }
-{
-    let Planned {
-        plan,
-        found,
-        suspects,
-    } = make_plan(alloc, board, edit, steps)?;
-    let ready = make_ready(alloc, board, plan, steps)?;
-    Ok(Cascade {
-        ready,
-        found,
-        suspects,
-    })
+/// What a run did beyond what its edit says, and what takes it back.
+#[derive(Drop)]
+pub struct Taken {
+    pub effects: Effects,
+    pub back: Ran,
+}
+
+impl Cascade {
+    /// Finds what an edit does to a catalogue, and takes all memory that it takes to carry it out on its board, and to take it back. The
+    /// board stays as it is, but for more room. `Err` is want of memory.
+    pub fn prepare<L: Ledger>(
+        alloc: Global,
+        board: &mut Board,
+        c: &Catalogue,
+        edit: &Edit,
+        steps: &mut Steps<L>,
+    ) -> Result<Cascade, AllocError>
+        requires good { IsGood c.now.items }
+        requires held { Holds board.old c.now.items }
+        requires fit { (edited : List Item) × IsFit c.now.items edit.now edited }
+        ensures board { board.new ≡ with_spare board.old board.new.spare_keys board.new.spare_links }
+        ensures held { Holds board.new c.now.items }
+        ensures cascade { IfOk result (λ cascade. (new : List Item) × IsCascade board.new c.now.items edit.now new cascade) }
+    {
+        let prepared = board.prepare(alloc, edit, steps)?;
+        let effects = effects_of(alloc, c, edit, &prepared.suspects, &prepared.found)?;
+        Ok(Cascade {
+            effects,
+            ready: prepared.ready,
+        })
+    }
+
+    /// How many items the run gains beyond those that the edit adds. No memory.
+    pub fn room(&self) -> usize
+        ensures { result ≡ vec_len self.now.effects.gained }
+    {
+        self.effects.gained.len()
+    }
+
+    /// Carries the edit out: the board then is that of the new catalogue. No memory, and no look-up.
+    pub fn run(self, board: &mut Board) -> Taken
+        requires { (c : List Item) × (edit : Edit) × (new : List Item) × IsCascade board.old c edit new self × Holds board.old c }
+        ensures held { (c new : List Item) (edit : Edit) → IsGood c → Holds board.old c → IsCascade board.old c edit new self → Holds board.new new }
+        ensures effects { result.effects ≡ self.effects }
+        ensures taken { (c new : List Item) (edit : Edit) → IsGood c → Holds board.old c → IsCascade board.old c edit new self → IsTaken board.old c board.new result }
+    {
+        let Cascade { effects, ready } = self;
+        let back = board.run(ready);
+        Taken { effects, back }
+    }
 }

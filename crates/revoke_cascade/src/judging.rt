@@ -8,9 +8,8 @@ ghost use Rattle.edit_suspects.specs.Seeds.{AreTouched, HaveSpread};
 ghost use Rattle.edit_suspects.specs.Suspects.{AreFresh};
 ghost use Rattle.revoke_cascade.specs.Prepared.{IsEditOn, IsFoundIn, IsJudgement, FitsSome};
 
-use asked_parts::part_of;
 use cat_items::{Catalogue, Edit, Item};
-use edit_parts::suspects_of;
+use edit_parts::{Suspected, suspects_of};
 use indexmap::IndexSet;
 use item_index::{Index, Steps};
 use part_rescue::{found_of, rescued};
@@ -50,9 +49,7 @@ pub(crate) fn judge<L: Ledger>(
     ensures { IfOk result (λ judged. (c edited f fresh : List Item) → IsEditOn board.now c edited f edit.now → AreFresh c edited fresh
         → IsJudgement board.now c edited f edit.now marks.now.keys fresh judged.suspects.items judged.found.items) }
 {
-    let suspects = suspects_of(alloc, board, marks, edit, steps)?;
-    let _ = suspects.items();
-    let part = part_of(alloc, board, marks, &suspects, steps)?;
+    let Suspected { suspects, part } = suspects_of(alloc, board, marks, edit, steps)?;
     let found = found_in(alloc, &part, &suspects)?;
     Ok(Judged { suspects, found })
 }

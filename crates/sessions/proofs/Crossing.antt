@@ -2,8 +2,11 @@
 use denote.Param.Send.{IsSend, sendable}
 use Rattle.std.proofs.Crossing.{crosses, frees}
 use Rattle.std.proofs.MapsCrossing as maps
+use Rattle.item_index.specs.contracts.lists.Lists as Lists
 use Rattle.cat_items.proofs.Sends.{item_send}
 use Rattle.cat_items.specs.contracts.catalogue.Catalogue as Catalogue
+use Rattle.revoke_cascade.specs.contracts.board.Board as Board
+use Rattle.catalogue_edits.specs.contracts.store.Store as Store
 use Rattle.cat_engine.specs.contracts.session.Session as Session
 use Rattle.cat_engine.specs.contracts.sessions.Sessions as Sessions
 use Rattle.cat_engine.specs.contracts.journal.Entry as Entry
@@ -12,6 +15,15 @@ use Rattle.cat_engine.specs.contracts.book.Book as Book
 
 catalogue_send : IsSend Catalogue.the_row
 catalogue_send = search (item_send, crosses, frees, sendable) depth 30 fits 100000
+
+lists_send : IsSend Lists.the_row
+lists_send = search (crosses, frees, sendable) depth 30 fits 100000
+
+board_send : IsSend Board.the_row
+board_send = search (item_send, lists_send, crosses, frees, sendable) depth 30 fits 100000
+
+store_send : IsSend Store.the_row
+store_send = search (catalogue_send, board_send, sendable) depth 30 fits 100000
 
 session_send : IsSend Session.the_row
 session_send = search (crosses, frees, sendable) depth 30 fits 100000
@@ -23,7 +35,7 @@ entry_send : IsSend Entry.the_row
 entry_send = search (crosses, frees, sendable) depth 30 fits 100000
 
 environment_send : IsSend Environment.the_row
-environment_send = search (catalogue_send, sessions_send, sendable) depth 30 fits 100000
+environment_send = search (store_send, sessions_send, sendable) depth 30 fits 100000
 
 pub book_send : IsSend Book.the_row
 book_send = search (environment_send, entry_send, crosses, frees, sendable) depth 30 fits 100000

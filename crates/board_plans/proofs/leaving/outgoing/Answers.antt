@@ -1,28 +1,29 @@
-use Rattle.std.proofs.Common.{ℕ, List, [], ◌∷◌, ◌++◌, get_or, take, subst, sym, ◌∙◌, ap, arith}
-use Rattle.std.proofs.lemmas.List.{take_more}
-use Rattle.board_plans.specs.Leaving.{AreOutgoing}
-use Rattle.board_plans.proofs.Outgoing.{out_other, out_topic}
+use Rattle.std.proofs.Common.{◌∙◌, arith}
+use Rattle.board_plans.proofs.Outgoing.{all_cost, all_go, at_least, topics_have_keys}
 use Rattle.board_plans.proofs.leaving.outgoing.Goals as goal
-use Rattle.board_plans.proofs.leaving.outgoing.Goals.{then-not-is_topic+in_ok-insert, else-not-is_topic}
 
-pub loop-number-preserved : goal.loop-number-preserved
-loop-number-preserved g c =
-    let items = c.as_slice-number-items.result.now in
-    let i = c.loop-number.number-index in
-    let n = get_or items i 0 in
-    let k = c.key.result.now in
-    let was = c.loop-number.invariant in
-    let old_ticks = was.ticks in
-    let new_ticks = c.key.ensures.ticks in
-    let seen = take_more items i 0 c.loop-number-test.true in
-    let board = c.args.board.now in
-    let old = c.loop-number.out.keys in
-    let after = c.if-not-is_topic.out.keys in
-    record {
-      out = subst (λ (ns : List ℕ). AreOutgoing board ns after) (sym seen) (elim c.if-not-is_topic.branch [
-        | then-not-is_topic+in_ok-insert w ↦ out_other board (take i items) old n k was.out c.key.ensures.key after (sym w.if-not-is_topic.ensures) (ap (λ s. s.keys) w.out-is ∙ w.in_ok-insert.ensures.keys)
-        | else-not-is_topic w ↦ subst (AreOutgoing board (take i items ++ n ∷ [])) (sym (ap (λ s. s.keys) w.out-is)) (out_topic board (take i items) old n k was.out c.key.ensures.key (sym w.if-not-is_topic.ensures))
-      ]);
-      items = was.items;
-      ticks = omega (arith, old_ticks, new_ticks);
-    }
+pub spent_of-requires : goal.spent_of-requires
+spent_of-requires g c = topics_have_keys c.args.board.now c.args.touched.now.keys c.as_slice.result.now (c.as_slice.ensures.value ∙ c.in_ok-out.ensures.topics) c.requires
+
+pub returns-in_err-out-clause-few : goal.returns-in_err-out-clause-few
+returns-in_err-out-clause-few g c = omega (arith, at_least c.args.board.now c.args.touched.now.keys, c.apart.ensures.few)
+
+pub returns-in_err-spent-clause-few : goal.returns-in_err-spent-clause-few
+returns-in_err-spent-clause-few g c =
+    let all = all_cost c.args.board.now c.args.touched.now.keys c.in_ok-out.out.keys c.as_slice.result.now c.in_ok-out.ensures.items (c.as_slice.ensures.value ∙ c.in_ok-out.ensures.topics) in
+    omega (arith, all, c.apart.ensures.few, c.spent_of.ensures.few)
+
+pub returns-in_err-put_all-clause-few : goal.returns-in_err-put_all-clause-few
+returns-in_err-put_all-clause-few g c =
+    let all = all_cost c.args.board.now c.args.touched.now.keys c.in_ok-out.out.keys c.as_slice.result.now c.in_ok-out.ensures.items (c.as_slice.ensures.value ∙ c.in_ok-out.ensures.topics) in
+    omega (arith, all, c.apart.ensures.few, c.spent_of.ensures.few)
+
+pub returns-clause-out : goal.returns-clause-out
+returns-clause-out g c =
+    all_go c.args.board.now c.args.touched.now.keys c.in_ok-out.out.keys c.as_slice.result.now c.in_ok-out.ensures.items (c.as_slice.ensures.value ∙ c.in_ok-out.ensures.topics) c.as_slice-2.result.now
+    (c.as_slice-2.ensures.value ∙ c.in_ok-spent.ensures.spent) c.put_all.new.numbers.keys c.in_ok-put_all.ensures
+
+pub returns-clause-few : goal.returns-clause-few
+returns-clause-few g c =
+    let all = all_cost c.args.board.now c.args.touched.now.keys c.in_ok-out.out.keys c.as_slice.result.now c.in_ok-out.ensures.items (c.as_slice.ensures.value ∙ c.in_ok-out.ensures.topics) in
+    omega (arith, all, c.apart.ensures.few, c.spent_of.ensures.few)

@@ -6,6 +6,7 @@ use Rattle.cat_items.specs.contracts.item.ItemPartialEq.TheImpl as same
 use Rattle.cat_items.specs.contracts.item.ItemEq.TheImpl.Laws as laws
 use Rattle.graph_changes.specs.Ends.{ArePlaced}
 use Rattle.board_plans.specs.Arrivals.{links_by}
+use Rattle.board_plans.specs.Leaving.{AreOutgoing}
 use Rattle.board_plans.proofs.Finding.{ends_placed}
 use Rattle.board_plans.proofs.PlanFrom.{all_known, plan_from}
 use Rattle.board_plans.proofs.plan.plan_of.Goals as goal
@@ -51,3 +52,6 @@ pub returns-clause-placed : goal.returns-clause-placed
 returns-clause-placed g c =
     let placed = ends_placed same.ghosts.eq c.args.board.now c.in_ok-out.out.keys c.in_ok-keys.keys.keys c.ends_of.new.keys.keys c.as_slice.result.now c.in_ok-links.links.items c.in_ok-links.ensures.ends in
     subst (λ (ks : List Item). All (ArePlaced (length ks)) c.in_ok-links.links.items) (sym c.in_ok-listed-2.ensures) placed
+
+pub returns-clause-out : goal.returns-clause-out
+returns-clause-out g c = subst (AreOutgoing c.args.board.now c.args.touched.now.keys) (sym c.in_ok-listed.ensures) c.in_ok-out.ensures.out

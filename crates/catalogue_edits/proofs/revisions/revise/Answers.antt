@@ -1,20 +1,19 @@
-use Rattle.std.proofs.Common.{refl}
-use Rattle.cat_items.specs.Catalogues.{Listing}
+use Rattle.std.proofs.Common.{◌≡◌}
 use Rattle.cat_items.specs.Edits.{IsNew}
-use Rattle.catalogue_edits.proofs.Outcomes.{outcome_exit, revised, good_again}
+use Rattle.catalogue_edits.specs.Revisions.{IsRevised}
+use Rattle.catalogue_edits.proofs.Outcomes.{outcome_exit, revised}
 use Rattle.catalogue_edits.proofs.revisions.revise.Goals as goal
 
-pub returns-in_err-new-clause-tested : goal.returns-in_err-new-clause-tested
-returns-in_err-new-clause-tested c =
-    let old = c.args.c.now.items in
+pub returns-in_err-change-clause-tested : goal.returns-in_err-change-clause-tested
+returns-in_err-change-clause-tested g c =
+    let old = c.args.store.now in
     let edit = c.in_ok-plan.plan.edit in
-    outcome_exit c.args.limits.now old c.args.who.now c.args.statement.now edit c.in_ok-plan.plan.restrict (λ (n : Listing). IsNew old edit n.items) _ _ c.in_err-new.field-0.0 c.from_residual-in_err-new.result
-    refl c.from_residual-in_err-new.ensures.1 c.in_ok-plan.ensures.planned.1.restrict c.in_ok-plan.ensures.planned.0 c.in_ok-plan.ensures.planned.1.edit c.in_err-new.ensures
+    let planned = rw c.catalogue.ensures.items at c.in_ok-plan.ensures.planned in
+    outcome_exit c.args.limits.now old c.args.who.now c.args.statement.now edit c.in_ok-plan.plan.restrict (λ (u : Unit {0}). IsNew old edit c.change.new.self) (λ warning. IsRevised old c.args.who.now c.args.statement.now warning c.change.new.self)
+    (c.change.new.self ≡ old) c.in_err-change.field-0.0 c.from_residual-in_err-change.result c.from_residual-in_err-change.ensures.1 planned.1.restrict planned.0 planned.1.edit c.in_err-change.ensures.tested
 
 pub returns-clause-tested : goal.returns-clause-tested
-returns-clause-tested c =
-    revised c.args.limits.now c.args.c.now.items c.args.who.now c.args.statement.now c.in_ok-plan.plan.edit c.in_ok-plan.plan.restrict c.in_ok-plan.plan.warning c.in_ok-new.new.items c.in_ok-plan.ensures.planned.1.restrict
-    c.in_ok-plan.ensures.planned.0 c.in_ok-plan.ensures.planned.1.edit c.in_ok-plan.ensures.planned.1.warning c.in_ok-new.ensures.0 c.in_ok-new.ensures.1
-
-pub returns-clause-good : goal.returns-clause-good
-returns-clause-good c = good_again c.args.c.now.items c.in_ok-plan.plan.edit c.in_ok-new.new.items c.in_ok-plan.ensures.sound c.in_ok-new.ensures.1
+returns-clause-tested g c =
+    let planned = rw c.catalogue.ensures.items at c.in_ok-plan.ensures.planned in
+    revised c.args.limits.now c.args.store.now c.args.who.now c.args.statement.now c.in_ok-plan.plan.edit c.in_ok-plan.plan.restrict c.in_ok-plan.plan.warning c.change.new.self planned.1.restrict planned.0 planned.1.edit planned.1.warning
+    c.in_ok-change.ensures.tested.0 c.in_ok-change.ensures.tested.1

@@ -6,4 +6,4 @@ use Rattle.edit_suspects.proofs.seeds.find_own.Goals as goal
 
 pub returns-clause-found : goal.returns-clause-found
 returns-clause-found g c =
-    on_ok_weaker c.find.result (own_found same.ghosts.eq c.args.board.now c.args.numbers.now.items c.find.new.numbers.items c.args.x.now (sym c.if-is_helper.ensures)) c.find.ensures.found
+    on_ok_weaker c.find.result (own_found same.ghosts.eq c.args.board.now c.args.numbers.now.items c.find.new.numbers.items c.args.x.now (sym c.if-is_helper.ensures.value)) c.find.ensures.found

@@ -6,7 +6,7 @@ use Rattle.cat_engine.proofs.HistoryLaws.{bytes_held-more, reached_more}
 use Rattle.cat_engine.proofs.book.Book.answer.Goals as goal
 
 pub invariant_of-self-2 : goal.invariant_of-self-2
-invariant_of-self-2 c =
+invariant_of-self-2 g c =
     let entry : Entry = record { session = c.args.session; text = c.args.text.now } in
     let old : State = record { users = c.self.inside.users.value.items; content = c.self.inside.environment; journal = c.self.inside.journal.items; limits = c.self.inside.limits } in
     let new : State = record { users = c.self.inside.users.value.items; content = c.answer.new.self; journal = c.enter.new.journal.items; limits = c.self.inside.limits } in
@@ -21,4 +21,4 @@ invariant_of-self-2 c =
     let more = bytes_held-more c.self.inside.journal.items entry in
     let held = ap bytes_held longer in
     let before = c.self.invariant.0 in
-    (omega (arith, more, held, before), reached_more old new c.args.session c.args.text.now c.in_ok-reply.reply c.self.invariant.1 c.requires.few entered)
+    (omega (arith, more, held, before), reached_more old new c.args.session c.args.text.now c.in_ok-reply.reply c.self.invariant.1 c.requires.few entered, c.in_ok-reply.ensures.narrow)

@@ -1,4 +1,4 @@
 use Rattle.cat_engine.proofs.environment.Environment.catalogue.Goals as goal
 
 pub returns-clause-good : goal.returns-clause-good
-returns-clause-good c = rw (← c.self.view_is) c.self.invariant
+returns-clause-good c = rw (← c.self.view_is) c.catalogue.ensures.good

@@ -24,9 +24,9 @@ returns c =
     (λ (s : List ℕ). c.connect.new.self ≡ with_session c.self.inside.sessions c.args.number
     (connected (session_of c.self.inside.sessions c.args.number) (record { name = c.match-connection.name; who = record { user = c.args.parts.user; role = None; schema = s } })))
     c.in_ok-copy.ensures made in
-    let before : Content = record { catalogue = c.self.inside.catalogue.items; sessions = c.self.inside.sessions } in
-    let after : Content = record { catalogue = c.self.inside.catalogue.items; sessions = c.connect.new.self } in
-    let done = connect_done before c.args.number c.args.parts c.match-connection.name c.connect.new.self named (sym c.has.ensures ∙ c.if-has.false) (so _ _ c.is_user.ensures c.if-not-is_user.false) then_made in
+    let before : Content = record { catalogue = c.self.inside.store; sessions = c.self.inside.sessions } in
+    let after : Content = record { catalogue = c.self.inside.store; sessions = c.connect.new.self } in
+    let done = connect_done before c.args.number c.args.parts c.match-connection.name c.connect.new.self named (sym c.has.ensures ∙ c.if-has.false) (so _ _ (rw c.catalogue.ensures.items at c.is_user.ensures) c.if-not-is_user.false) then_made in
     let whole = subst
     (λ (old : Content). Passes (First (connection_in_use old.sessions c.args.number (connection_name c.args.parts) ∷ unknown_user old.catalogue c.args.parts.user ∷ []))
     × ChangesSession c.args.number (λ s. connected s (connection_of c.args.parts)) old after)

@@ -1,0 +1,130 @@
+use Rattle.std.proofs.Common.{◌≡◌, ◌↔◌, ◌⊎◌, ◌∙◌, List, ap, arith, length, subst, sym}
+use Rattle.std.specs.List.{Contains}
+use Rattle.std.proofs.lemmas.Bool.{eqb-true}
+use Rattle.cat_items.specs.declared.item.Item.{Item}
+use Rattle.topic_keys.specs.Lists.{Gets}
+use Rattle.asked_parts.specs.Rounds.{IsAddedToBySome}
+use Rattle.asked_parts.specs.Under.{look_ups}
+use Rattle.asked_parts.proofs.GrowthLaws.{no_more, once}
+use Rattle.asked_parts.proofs.MoreLaws.{asked_before, asked_within_all, first_apart, least_more, way_more}
+use Rattle.asked_parts.proofs.PartLaws.{part_closed, within_room}
+use Rattle.asked_parts.proofs.rounds.ask_more.Goals as goal
+
+pub returns-then-is_empty-clause-asked : goal.returns-then-is_empty-clause-asked
+returns-then-is_empty-clause-asked g c =
+    let graph = c.args.board.now in
+    let marks = c.args.marks.now.keys in
+    let suspects = c.args.suspects.now.items in
+    let more = c.args.more.now.items in
+    let part = c.args.part.now.items in
+    let asked = c.args.asked.now.items in
+    let was = c.requires.before in
+    let none : length c.items.result.now ≡ 0 = eqb-true (length c.items.result.now) 0 (sym c.is_empty.ensures ∙ c.if-is_empty.true) in
+    let all = asked_before graph marks suspects more part asked was (λ x h. absurd (omega (arith, none, (subst (λ l. Contains l x) (sym c.items.ensures.items) h).1))) in
+    all
+
+pub returns-then-is_empty-clause-part : goal.returns-then-is_empty-clause-part
+returns-then-is_empty-clause-part g c =
+    let graph = c.args.board.now in
+    let marks = c.args.marks.now.keys in
+    let suspects = c.args.suspects.now.items in
+    let more = c.args.more.now.items in
+    let part = c.args.part.now.items in
+    let asked = c.args.asked.now.items in
+    let was = c.requires.before in
+    let none : length c.items.result.now ≡ 0 = eqb-true (length c.items.result.now) 0 (sym c.is_empty.ensures ∙ c.if-is_empty.true) in
+    let all = asked_before graph marks suspects more part asked was (λ x h. absurd (omega (arith, none, (subst (λ l. Contains l x) (sym c.items.ensures.items) h).1))) in
+    λ cat no full. part_closed graph cat no full marks suspects part all.way.order all.way.from all.closed
+
+pub returns-then-is_empty-clause-ticks : goal.returns-then-is_empty-clause-ticks
+returns-then-is_empty-clause-ticks g c =
+    let graph = c.args.board.now in
+    let marks = c.args.marks.now.keys in
+    let suspects = c.args.suspects.now.items in
+    let more = c.args.more.now.items in
+    let part = c.args.part.now.items in
+    let asked = c.args.asked.now.items in
+    let was = c.requires.before in
+    λ p keys closed has. omega (arith, no_more (look_ups graph) asked keys (once asked was.1.way.asked_order) (asked_within_all graph marks suspects more part asked was p keys closed has))
+
+pub returns-in_err-first-clause-ticks : goal.returns-in_err-first-clause-ticks
+returns-in_err-first-clause-ticks g c =
+    let graph = c.args.board.now in
+    let marks = c.args.marks.now.keys in
+    let suspects = c.args.suspects.now.items in
+    let more = c.args.more.now.items in
+    let part = c.args.part.now.items in
+    let asked = c.args.asked.now.items in
+    let was = c.requires.before in
+    λ p keys closed has. omega (arith, no_more (look_ups graph) asked keys (once asked was.1.way.asked_order) (asked_within_all graph marks suspects more part asked was p keys closed has), c.begun.ensures.ticks, ap length c.items-3.ensures.items)
+
+pub put_copies-requires-clause-apart : goal.put_copies-requires-clause-apart
+put_copies-requires-clause-apart g c =
+    let graph = c.args.board.now in
+    let marks = c.args.marks.now.keys in
+    let suspects = c.args.suspects.now.items in
+    let more = c.args.more.now.items in
+    let part = c.args.part.now.items in
+    let asked = c.args.asked.now.items in
+    let was = c.requires.before in
+    let first = c.in_ok-first.first.items in
+    let are : (y : Item) → Contains first y ↔ (Contains more y ⊎ IsAddedToBySome graph marks more y) =
+    subst (λ (l : List Item). (y : Item) → Contains first y ↔ (Contains l y ⊎ IsAddedToBySome graph marks l y)) c.items-3.ensures.items c.in_ok-first.ensures.members in
+    λ x y h f e. first_apart graph marks suspects more part asked was first are c.requires.apart c.items-2.ensures.order x y h (subst (λ l. Contains l y) c.items-4.ensures.items f) e
+
+pub returns-in_err-put_copies-clause-ticks : goal.returns-in_err-put_copies-clause-ticks
+returns-in_err-put_copies-clause-ticks g c =
+    let graph = c.args.board.now in
+    let marks = c.args.marks.now.keys in
+    let suspects = c.args.suspects.now.items in
+    let more = c.args.more.now.items in
+    let part = c.args.part.now.items in
+    let asked = c.args.asked.now.items in
+    let was = c.requires.before in
+    λ p keys closed has. omega (arith, no_more (look_ups graph) asked keys (once asked was.1.way.asked_order) (asked_within_all graph marks suspects more part asked was p keys closed has), c.begun.ensures.ticks, ap length c.items-3.ensures.items)
+
+pub loop-first-init : goal.loop-first-init
+loop-first-init g c =
+    let graph = c.args.board.now in
+    let marks = c.args.marks.now.keys in
+    let suspects = c.args.suspects.now.items in
+    let more = c.args.more.now.items in
+    let part = c.args.part.now.items in
+    let asked = c.args.asked.now.items in
+    let was = c.requires.before in
+    let first = c.in_ok-first.first.items in
+    let are : (y : Item) → Contains first y ↔ (Contains more y ⊎ IsAddedToBySome graph marks more y) =
+    subst (λ (l : List Item). (y : Item) → Contains first y ↔ (Contains l y ⊎ IsAddedToBySome graph marks l y)) c.items-3.ensures.items c.in_ok-first.ensures.members in
+    let new = c.put_copies.new.part.items in
+    let gets : Gets (Contains first) part new = subst (λ (l : List Item). Gets (Contains l) part new) c.items-4.ensures.items c.in_ok-put_copies.ensures.members in
+    record {
+      way = way_more graph marks suspects more part asked was first are new gets c.in_ok-put_copies.ensures.order;
+      least = least_more graph marks suspects more part asked was first are new gets;
+      spent = omega (arith, c.begun.ensures.ticks, ap length c.items-3.ensures.items);
+    }
+
+pub returns-in_err-round-clause-ticks : goal.returns-in_err-round-clause-ticks
+returns-in_err-round-clause-ticks g c =
+    let graph = c.args.board.now in
+    let marks = c.args.marks.now.keys in
+    let suspects = c.args.suspects.now.items in
+    let more = c.args.more.now.items in
+    let part = c.args.part.now.items in
+    let asked = c.args.asked.now.items in
+    let was = c.requires.before in
+    λ p keys closed has. omega (arith, c.loop-first.invariant.spent, c.round.ensures.few p keys c.loop-first.invariant.least closed has)
+
+pub loop-first-smaller : goal.loop-first-smaller
+loop-first-smaller g c =
+    let more = c.in_ok-round.ensures.more c.if-branch.true in
+    let fits = within_room c.args.board.now c.args.marks.now.keys c.args.suspects.now.items c.round.new.part.items c.round.new.asked.items c.in_ok-round.ensures.way in
+    omega (arith, more, fits)
+
+pub returns-clause-part : goal.returns-clause-part
+returns-clause-part g c =
+    let way = c.in_ok-round.ensures.way in
+    λ cat no full. part_closed c.args.board.now cat no full c.args.marks.now.keys c.args.suspects.now.items c.round.new.part.items way.order way.from (c.in_ok-round.ensures.closed c.if-branch.false)
+
+pub returns-clause-ticks : goal.returns-clause-ticks
+returns-clause-ticks g c =
+    λ p keys closed has. omega (arith, c.loop-first.invariant.spent, c.round.ensures.few p keys c.loop-first.invariant.least closed has)

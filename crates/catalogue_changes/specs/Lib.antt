@@ -1,0 +1,4 @@
+pub mod Effects
+pub mod Changes
+pub mod Parts
+pub mod Widths

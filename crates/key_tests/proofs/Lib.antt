@@ -1,0 +1,3 @@
+pub mod HelperKeys
+pub mod PossibleRights
+pub mod TopicKeys

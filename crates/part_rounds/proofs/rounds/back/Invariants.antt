@@ -1,0 +1,14 @@
+use Rattle.std.proofs.Common.{◌≡◌, ◌≤◌, length}
+use Rattle.cat_items.specs.Supported.{Supported}
+use Rattle.part_rounds.proofs.RoundLemmas.{HaveGrown}
+use Rattle.part_rounds.proofs.rounds.back.Given as goal
+
+abbrev pub invariant-loop-at : goal.invariant-loop-at
+invariant-loop-at l = record {
+  room : l.walk ≡ l.initial.walk;
+  within : l.at ≤ length l.c.items;
+  grown : HaveGrown (Supported l.c.items) l.c.items l.initial.marks l.marks;
+}
+
+abbrev pub decreases-loop-at : goal.decreases-loop-at
+decreases-loop-at l = l.at

@@ -1,0 +1,13 @@
+use Rattle.revoke_cascade.proofs.preparing.prepare_on.Goals as goal
+
+pub make_ready-requires-clause-planned : goal.make_ready-requires-clause-planned
+make_ready-requires-clause-planned g c =
+    let fits = c.requires in
+    let to = c.in_ok-plan.ensures.outcome fits.0 fits.1 fits.2 in
+    ∣ (fits.0, to.0, to.1.planned.0, to.1.planned.1) ∣₁
+
+pub returns-clause-outcome : goal.returns-clause-outcome
+returns-clause-outcome g c = λ old edited fits.
+    let to = c.in_ok-plan.ensures.outcome old edited fits in
+    let planned = to.1.planned in
+    (to.0, record { made = to.1.made; planned = (planned.0, c.in_ok-ready.ensures.planned old to.0 planned.0 planned.1); tells = to.1.tells })

@@ -1,0 +1,35 @@
+-- Boards of catalogues, and cascades that are ready on them.
+use Rattle.std.specs.Prelude.{Bool, List, []}
+use Rattle.item_index.specs.Graphs.{Graph}
+use Rattle.cat_items.specs.declared.edit.Edit.{Edit}
+use Rattle.cat_items.specs.declared.item.Item.{Item}
+use Rattle.cat_items.specs.contracts.item.ItemPartialEq.TheImpl as same
+use Rattle.cat_items.specs.Catalogues.{IsInOrder}
+use Rattle.cat_items.specs.Edits.{IsNew}
+use Rattle.catalogue_changes.specs.Effects.{AreEffects}
+use Rattle.board_steps.specs.Plans.{HasNoHelper, IsFullBoard}
+use Rattle.board_changes.specs.Readiness.{IsPlanned, IsReady, TakesBack}
+use Rattle.revoke_cascade.specs.declared.cascade.Cascade.{Cascade}
+use Rattle.revoke_cascade.specs.declared.cascade.Taken.{Taken}
+
+-- the graph is the board of this catalogue
+pub record IsBoardOf (g : Graph Item) (c : List Item) : Type 0 where
+  pub order : IsInOrder c
+  pub no_helper : HasNoHelper c
+  pub full : IsFullBoard g c
+
+-- the edit that adds these items, and does nothing else
+abbrev pub adds : List Item → Edit
+adds items = record { target = []; changed = []; added = items }
+
+-- On this board, of c, the cascade is ready to make the board of the edit's new catalogue, and has what the edit does beyond what it says.
+pub record IsCascade (g : Graph Item) (c : List Item) (edit : Edit) (new : List Item) (cascade : Cascade) : Type 0 where
+  pub made : IsNew c edit new
+  pub effects : AreEffects c edit new cascade.effects
+  pub ready : IsReady same.ghosts.eq g cascade.ready
+  pub planned : (suspect : Item → Bool) × IsPlanned same.ghosts.eq g c new suspect cascade.ready.plan
+
+-- a run made this board of that of c, and what it left takes it back
+pub record IsTaken (before : Graph Item) (c : List Item) (after : Graph Item) (taken : Taken) : Type 0 where
+  pub old : IsBoardOf before c
+  pub back : TakesBack same.ghosts.eq before after taken.back
