@@ -22,7 +22,7 @@ use Rattle.cat_items.specs.declared.item.Item.TheVariants as item
 use Rattle.cat_items.specs.declared.ranges.ObjectKind.{ObjectKind}
 use Rattle.cat_items.specs.declared.ranges.ObjectKind.TheVariants as object
 use Rattle.cat_items.specs.declared.ranges.Part.{Part}
-use Rattle.cat_items.specs.declared.ranges.Part.TheVariants.{Objects, User, Role, Schema, Table, View, Columns, Domain, Key, Routine, RoleAuthorizations, RoleGrants, AdminOptions, Held, HeldOn, Grantable}
+use Rattle.cat_items.specs.declared.ranges.Part.TheVariants.{Objects, User, Role, Schema, Table, View, Columns, Domain, Key, Routine, RoleAuthorizations, RoleGrants, AdminOptions, Held, HeldOn, Grantable, GrantableOn}
 use Rattle.cat_items.specs.Keys.{object_of, path_in, need_of}
 use Rattle.cat_items.specs.Order.{name_cmp, object_cmp, need_cmp, target_cmp, action_number, kind_of, key_cmp, item_cmp}
 use Rattle.cat_items.specs.Catalogues.{IsInOrder}
@@ -222,6 +222,8 @@ is_in (HeldOn action on) (item.Held r) = target_tie r.need action (path_in on)
 is_in (HeldOn action on) x = (λ h. absurd h, λ h. absurd h)
 is_in (Grantable need) (item.Grantable r) = same need_cmp need_cmp-total need_cmp-is r.need (need_of need)
 is_in (Grantable need) x = (λ h. absurd h, λ h. absurd h)
+is_in (GrantableOn action on) (item.Grantable r) = target_tie r.need action (path_in on)
+is_in (GrantableOn action on) x = (λ h. absurd h, λ h. absurd h)
 
 -- along the order of items a part's places rise
 
@@ -295,6 +297,8 @@ by_kind (HeldOn action on) (item.Held r) other = absurd (other refl)
 by_kind (HeldOn action on) x other = refl
 by_kind (Grantable need) (item.Grantable r) other = absurd (other refl)
 by_kind (Grantable need) x other = refl
+by_kind (GrantableOn action on) (item.Grantable r) other = absurd (other refl)
+by_kind (GrantableOn action on) x other = refl
 
 unlike : {A : Type 0} (m n : ℕ) → nat_eq m n ≡ false → nat_eq n n ≡ true → m ≡ n → A
 unlike m n off on e = absurd (false≢true (sym off ∙ ap (λ k. nat_eq k n) e ∙ on))
@@ -352,6 +356,9 @@ within_kind (HeldOn action on) x y ex ey less = unlike _ 16 refl refl ex
 within_kind (Grantable need) (item.Grantable g) (item.Grantable h) ex ey less = first_part need_cmp need_cmp-total g.need h.need (need_of need) _ less
 within_kind (Grantable need) (item.Grantable g) y ex ey less = unlike _ 17 refl refl ey
 within_kind (Grantable need) x y ex ey less = unlike _ 17 refl refl ex
+within_kind (GrantableOn action on) (item.Grantable g) (item.Grantable h) ex ey less = target_first g.need h.need action (path_in on) _ less
+within_kind (GrantableOn action on) (item.Grantable g) y ex ey less = unlike _ 17 refl refl ey
+within_kind (GrantableOn action on) x y ex ey less = unlike _ 17 refl refl ex
 
 below_two : (o : Ordering) → ordering_index o ≤ 2
 below_two Less = omega arith

@@ -10,7 +10,7 @@ use Rattle.cat_items.specs.declared.item.Item.TheVariants as item
 use Rattle.cat_items.specs.declared.ranges.ObjectKind.{ObjectKind}
 use Rattle.cat_items.specs.declared.ranges.ObjectKind.TheVariants as object
 use Rattle.cat_items.specs.declared.ranges.Part.{Part}
-use Rattle.cat_items.specs.declared.ranges.Part.TheVariants.{Objects, User, Role, Schema, Table, View, Columns, Domain, Key, Routine, RoleAuthorizations, RoleGrants, AdminOptions, Held, HeldOn, Grantable}
+use Rattle.cat_items.specs.declared.ranges.Part.TheVariants.{Objects, User, Role, Schema, Table, View, Columns, Domain, Key, Routine, RoleAuthorizations, RoleGrants, AdminOptions, Held, HeldOn, Grantable, GrantableOn}
 use Rattle.sql_names.specs.declared.object.Object.{Object}
 use Rattle.cat_items.specs.Keys.{object_of, path_in, need_of}
 use Rattle.cat_items.specs.Order.{name_cmp, object_cmp, need_cmp, target_cmp, kind_of}
@@ -103,6 +103,11 @@ abbrev pub IsGrantableOf : Need → Item → Type 0
 IsGrantableOf need (item.Grantable r) = r.need ≡ need
 IsGrantableOf need x = ⊥
 
+-- a grant option of this action on this object, or on a column of it
+abbrev pub IsGrantableOn : Action → PathNames → Item → Type 0
+IsGrantableOn action on (item.Grantable r) = (r.need.action ≡ action) × (r.need.on ≡ on)
+IsGrantableOn action on x = ⊥
+
 abbrev pub IsIn : Part → Item → Type 0
 IsIn (Objects kind schema) x = IsObjectIn kind schema.now x
 IsIn (User name) x = IsUser name.now x
@@ -120,6 +125,7 @@ IsIn (AdminOptions role) x = IsAdminOptionOf role.now x
 IsIn (Held need) x = IsHeldOf (need_of need) x
 IsIn (HeldOn action on) x = IsHeldOn action (path_in on) x
 IsIn (Grantable need) x = IsGrantableOf (need_of need) x
+IsIn (GrantableOn action on) x = IsGrantableOn action (path_in on) x
 
 -- the kind of the items of a part
 abbrev pub kind_in : Part → ℕ
@@ -139,6 +145,7 @@ kind_in (AdminOptions role) = 15
 kind_in (Held need) = 16
 kind_in (HeldOn action on) = 16
 kind_in (Grantable need) = 17
+kind_in (GrantableOn action on) = 17
 
 abbrev pub object_place : ℕ → NameBytes → ℕ → Option NameBytes → Ordering
 object_place number schema kind None = nat_cmp kind number
@@ -161,4 +168,5 @@ place_in (AdminOptions role) (item.RoleAdmin g) = name_cmp g.role role.now
 place_in (Held need) (item.Held r) = need_cmp r.need (need_of need)
 place_in (HeldOn action on) (item.Held r) = target_cmp r.need action (path_in on)
 place_in (Grantable need) (item.Grantable r) = need_cmp r.need (need_of need)
+place_in (GrantableOn action on) (item.Grantable r) = target_cmp r.need action (path_in on)
 place_in part x = nat_cmp (kind_of x) (kind_in part)

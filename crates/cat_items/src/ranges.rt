@@ -57,6 +57,8 @@ pub enum Part<'a> {
     HeldOn(Action, PathKey<'a>),
     /// The grant options of exactly this need.
     Grantable(NeedKey<'a>),
+    /// The grant options of an action on an object and on its columns.
+    GrantableOn(Action, PathKey<'a>),
 }
 
 /// The number of an item's kind.
@@ -139,7 +141,7 @@ fn kind_of_part(part: Part<'_>) -> u8
         Part::RoleAuthorizations | Part::RoleGrants(_) => 14,
         Part::AdminOptions(_) => 15,
         Part::Held(_) | Part::HeldOn(_, _) => 16,
-        Part::Grantable(_) => 17,
+        Part::Grantable(_) | Part::GrantableOn(_, _) => 17,
     }
 }
 
@@ -177,6 +179,11 @@ fn place(part: Part<'_>, x: &Item) -> Ordering
             on,
         ),
         (Part::Grantable(need), Item::Grantable(right)) => compare_need(&right.get().need, need),
+        (Part::GrantableOn(action, on), Item::Grantable(right)) => compare_target(
+            &right.get().need,
+            action,
+            on,
+        ),
         _ => kind(x).cmp(&kind_of_part(part)),
     }
 }
