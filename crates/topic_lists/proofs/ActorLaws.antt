@@ -1,8 +1,9 @@
 -- Who acts, and whom the actor reaches.
-use Rattle.std.proofs.Common.{◌≡◌, ◌↔◌, ◌⊎◌, inl, inr, ℕ, List, [], ◌∷◌, Option, Some, None, refl, sym, ap, subst, ◌∙◌}
+use Rattle.std.proofs.Common.{◌≡◌, ◌↔◌, ◌⊎◌, inl, inr, ℕ, Bool, IsTrue, List, [], ◌∷◌, Option, Some, None, refl, sym, ap, subst, ◌∙◌}
 use Rattle.std.specs.List.{Contains, slice_get}
 use Rattle.cat_items.specs.declared.need.Auth.{Auth}
 use Rattle.cat_items.specs.declared.need.Auth.TheVariants.{System, Public, Named}
+use Rattle.cat_items.specs.declared.need.Need.{Need}
 use Rattle.cat_items.specs.declared.item.Item.{Item}
 use Rattle.cat_items.specs.declared.item.Item.TheVariants as item
 use Rattle.cat_items.specs.Catalogues.{IsInOrder, OwnsSchema}
@@ -11,6 +12,7 @@ use Rattle.cat_items.specs.Relevant.{IsActor, IsOwnedSchema, Owns, OwnsPath}
 use Rattle.role_graph.specs.Roles.{IsApplicable}
 use Rattle.edit_rules.proofs.OwnerLemmas.{one_owner}
 use Rattle.topic_lists.specs.Actors.{IsNamedAmong, IsNamedReach, IsReachedBy, IsTheOne}
+use Rattle.topic_lists.specs.Sought.{Looks}
 
 -- ---- the owner of a schema
 
@@ -81,4 +83,12 @@ pub actor_reach : (l : List Item) (x : Item) (actor : Auth) → IsTheOne (IsActo
 actor_reach l x actor one g = (
   λ h. (actor, (one actor).1 refl, h),
   λ h. subst (λ a. Reaches l a g) (sym (some_auth actor h.0 ((one h.0).0 h.1))) h.2,
+)
+
+-- the actor's reach, where anything is looked for
+pub reached_where : (l : List Item) (x : Item) (needs : List Need) (found all : List Auth) (looks : Bool) → IsTrue looks ↔ Looks needs x → all ≡ found → ((g : Auth) → Contains found g ↔ (IsTrue looks × IsReachedBy l x g))
+    → (g : Auth) → Contains all g ↔ (Looks needs x × IsReachedBy l x g)
+reached_where l x needs found all looks is same are g = (
+  λ h. let by = (are g).0 (subst (λ list. Contains list g) same h) in (is.0 by.0, by.1),
+  λ h. subst (λ list. Contains list g) (sym same) ((are g).1 (is.1 h.0, h.1)),
 )

@@ -1,4 +1,5 @@
-pub mod Runs
 pub mod ActorLaws
+pub mod BesideLaws
 pub mod NeedLaws
+pub mod Runs
 pub mod TopicLaws

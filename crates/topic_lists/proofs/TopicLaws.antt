@@ -11,7 +11,8 @@ use Rattle.cat_items.specs.declared.item.Right.{Right}
 use Rattle.cat_items.specs.declared.item.RoleGrant.{RoleGrant}
 use Rattle.cat_items.specs.declared.item.Item.{Item}
 use Rattle.cat_items.specs.declared.item.Item.TheVariants as item
-use Rattle.cat_items.specs.Relevant.{IsNeedOf}
+use Rattle.cat_items.specs.Reach.{Reaches}
+use Rattle.cat_items.specs.Relevant.{IsActor, IsNeedOf}
 use Rattle.cat_items.specs.Rights.{path_of}
 use Rattle.cascade_laws.specs.Asks as asks
 use Rattle.cascade_laws.specs.Asks.{Asks, IsFarTopic, IsFirstTopic, IsFarRightTopic}
@@ -146,15 +147,31 @@ own_sought needs reached x t (inr (inr h)) =
     let to = admins_to of.0 of.2.0 t of.2.2 in
     own t (admins of.0 to.0) to.2 tt
 
-module _ (l : List Item) (x : Item) (needs : List Need) (reached : List Auth) (reach : (g : Auth) → Contains reached g ↔ IsReachedBy l x g) where
+granted : (x : Item) (role : List ℕ) → IsGrantOf role x → IsRoleGrant x
+granted (item.RoleAuth g) role is = tt
+granted (item.RoleAdmin g) role is = tt
+granted x role is = absurd is
+
+-- what is put in for an item that has these needs, and whose actor reaches these
+abbrev pub IsPutIn : List Need → List Auth → Item → Topic → Type 0
+IsPutIn needs reached x t = (IsNameTopic x t ⊎ IsFarTopic x t) ⊎ IsSoughtTopic needs reached x t
+
+-- what an item looks for, of a need
+abbrev pub IsLookedFor : List Item → Item → Need → Topic → Type 0
+IsLookedFor l x need t = IsNeedTopic need t ⊎ ((a : Auth) × (g : Auth) × IsActor l x a × Reaches l a g × ((t ≡ supply need g) ⊎ IsEdgesTopic g t))
+
+module _ (l : List Item) (x : Item) (needs : List Need) (reached : List Auth) (reach : (g : Auth) → Contains reached g ↔ (Looks needs x × IsReachedBy l x g)) where
   reached_name : (g : Auth) (name : List ℕ) → Contains reached g → g ≡ Named name → IsReachedBy l x (Named name)
-  reached_name g name there e = subst (IsReachedBy l x) e ((reach g).0 there)
+  reached_name g name there e = subst (IsReachedBy l x) e ((reach g).0 there).1
+
+  to_reached : (a g : Auth) → Looks needs x → IsActor l x a → Reaches l a g → Contains reached g
+  to_reached a g looks actor to = (reach g).1 (looks, (a, actor, to))
 
   module _ (are : (need : Need) → Contains needs need ↔ IsOwnNeed l x need) where
     to_depends : (t : Topic) → IsSoughtTopic needs reached x t → DependsOn l x t
     to_depends t (inl of) = elim of.2 [
       | inl e ↦ on.of_need of.0 ((are of.0).0 of.1) e
-      | inr to ↦ let by = (reach to.0).0 to.1 in on.of_supply of.0 by.0 to.0 ((are of.0).0 of.1) by.1 by.2 to.2
+      | inr to ↦ let by = ((reach to.0).0 to.1).1 in on.of_supply of.0 by.0 to.0 ((are of.0).0 of.1) by.1 by.2 to.2
     ]
     to_depends t (inr (inl h)) =
         let to = edges_to h.1.0 t h.1.2 in
@@ -173,10 +190,13 @@ module _ (l : List Item) (x : Item) (needs : List Need) (reached : List Auth) (r
     from_depends t (on.by_name h) own = inl h
     from_depends t (on.by_option h) own = absurd (no_option x t h own)
     from_depends t (on.of_need need is h) own = inr (inl (need, (are need).1 is, inl h))
-    from_depends t (on.of_supply need a g is actor to e) own = inr (inl (need, (are need).1 is, inr (g, (reach g).1 (a, actor, to), e)))
-    from_depends t (on.of_edges need a name is actor to e) own = inr (inr (inl (inl (need, (are need).1 is), (Named name, (reach (Named name)).1 (a, actor, to), e))))
-    from_depends t (on.of_role a name grant actor to e) own = inr (inr (inl (inr grant, (Named name, (reach (Named name)).1 (a, actor, to), e))))
-    from_depends t (on.of_admins a role name is actor to e) own = inr (inr (inr (to_admin_options x reached t role is (Named name, (reach (Named name)).1 (a, actor, to), e))))
+    from_depends t (on.of_supply need a g is actor to e) own = let here = (are need).1 is in inr (inl (need, here, inr (g, to_reached a g (inl (need, here)) actor to, e)))
+    from_depends t (on.of_edges need a name is actor to e) own =
+        let looks : Looks needs x = inl (need, (are need).1 is) in
+        inr (inr (inl (looks, (Named name, to_reached a (Named name) looks actor to, e))))
+    from_depends t (on.of_role a name grant actor to e) own = let looks : Looks needs x = inr grant in inr (inr (inl (looks, (Named name, to_reached a (Named name) looks actor to, e))))
+    from_depends t (on.of_admins a role name is actor to e) own =
+        inr (inr (inr (to_admin_options x reached t role is (Named name, to_reached a (Named name) (inr (granted x role is)) actor to, e))))
 
     pub depends_are : (t : Topic) → (IsNameTopic x t ⊎ IsSoughtTopic needs reached x t) ↔ IsTopicOf l x t
     depends_are t = (
@@ -187,17 +207,17 @@ module _ (l : List Item) (x : Item) (needs : List Need) (reached : List Auth) (r
       λ h. from_depends t h.0 h.1,
     )
 
-  module _ (are : (need : Need) → Contains needs need ↔ IsNeedOf l x need) where
+  module _ (are : (need : Need) → Contains needs need → IsNeedOf l x need) where
     to_asks : (t : Topic) → IsSoughtTopic needs reached x t → Asks l x t
     to_asks t (inl of) = elim of.2 [
-      | inl e ↦ asks.of_need of.0 ((are of.0).0 of.1) e
-      | inr to ↦ let by = (reach to.0).0 to.1 in asks.of_supply of.0 by.0 to.0 ((are of.0).0 of.1) by.1 by.2 to.2
+      | inl e ↦ asks.of_need of.0 (are of.0 of.1) e
+      | inr to ↦ let by = ((reach to.0).0 to.1).1 in asks.of_supply of.0 by.0 to.0 (are of.0 of.1) by.1 by.2 to.2
     ]
     to_asks t (inr (inl h)) =
         let to = edges_to h.1.0 t h.1.2 in
         let by = reached_name h.1.0 to.0 h.1.1 to.1 in
         elim h.0 [
-          | inl some ↦ asks.of_edges by.0 to.0 (by.1, inl (some.0, (are some.0).0 some.1)) by.2 to.2
+          | inl some ↦ asks.of_edges by.0 to.0 (by.1, inl (some.0, are some.0 some.1)) by.2 to.2
           | inr grant ↦ asks.of_edges by.0 to.0 (by.1, inr grant) by.2 to.2
         ]
     to_asks t (inr (inr h)) =
@@ -206,27 +226,34 @@ module _ (l : List Item) (x : Item) (needs : List Need) (reached : List Auth) (r
         let by = reached_name of.2.0 to.0 of.2.1 to.1 in
         asks.of_admins by.0 of.0 to.0 of.1 by.1 by.2 to.2
 
-    looked_for : ((need : Need) × IsNeedOf l x need) ⊎ IsRoleGrant x → Looks needs x
-    looked_for (inl some) = inl (some.0, (are some.0).1 some.1)
-    looked_for (inr grant) = inr grant
+    pub put_is_asked : (t : Topic) → IsPutIn needs reached x t → IsAskedFor l x t
+    put_is_asked t (inl (inl name)) = (asks.by_name name, own_name x t name)
+    put_is_asked t (inl (inr far)) = (asks.by_far far, own_far x t far)
+    put_is_asked t (inr sought) = (to_asks t sought, own_sought needs reached x t sought)
 
-    from_asks : (t : Topic) → Asks l x t → IsOwnTopic t → (IsNameTopic x t ⊎ IsFarTopic x t) ⊎ IsSoughtTopic needs reached x t
-    from_asks t (asks.by_name h) own = inl (inl h)
-    from_asks t (asks.by_far h) own = inl (inr h)
+  -- of each need that isn't among these, something else is so of what is looked for
+  module _ (Other : Topic → Type 0) (found : (need : Need) → IsNeedOf l x need → Contains needs need ⊎ ((t : Topic) → IsLookedFor l x need t → Other t)) where
+    by_edges : (t : Topic) (a : Auth) (name : List ℕ) → Looks needs x → IsActor l x a → Reaches l a (Named name) → t ≡ edges name → IsPutIn needs reached x t ⊎ Other t
+    by_edges t a name looks actor to e = inl (inr (inr (inl (looks, (Named name, to_reached a (Named name) looks actor to, e)))))
+
+    from_asks : (t : Topic) → Asks l x t → IsOwnTopic t → IsPutIn needs reached x t ⊎ Other t
+    from_asks t (asks.by_name h) own = inl (inl (inl h))
+    from_asks t (asks.by_far h) own = inl (inl (inr h))
     from_asks t (asks.by_option h) own = absurd (no_option x t h own)
-    from_asks t (asks.of_need need is h) own = inr (inl (need, (are need).1 is, inl h))
-    from_asks t (asks.of_supply need a g is actor to e) own = inr (inl (need, (are need).1 is, inr (g, (reach g).1 (a, actor, to), e)))
-    from_asks t (asks.of_edges a name seeks to e) own = inr (inr (inl (looked_for seeks.1, (Named name, (reach (Named name)).1 (a, seeks.0, to), e))))
-    from_asks t (asks.of_admins a role name is actor to e) own = inr (inr (inr (to_admin_options x reached t role is (Named name, (reach (Named name)).1 (a, actor, to), e))))
+    from_asks t (asks.of_need need is h) own = elim (found need is) [ inl here ↦ inl (inr (inl (need, here, inl h))) | inr other ↦ inr (other t (inl h)) ]
+    from_asks t (asks.of_supply need a g is actor to e) own = elim (found need is) [
+      | inl here ↦ inl (inr (inl (need, here, inr (g, to_reached a g (inl (need, here)) actor to, e))))
+      | inr other ↦ inr (other t (inr (a, g, actor, to, inl e)))
+    ]
+    from_asks t (asks.of_edges a name seeks to e) own = elim seeks.1 [
+      | inl some ↦ elim (found some.0 some.1) [
+        | inl here ↦ by_edges t a name (inl (some.0, here)) seeks.0 to e
+        | inr other ↦ inr (other t (inr (a, Named name, seeks.0, to, inr e)))
+      ]
+      | inr grant ↦ by_edges t a name (inr grant) seeks.0 to e
+    ]
+    from_asks t (asks.of_admins a role name is actor to e) own =
+        inl (inr (inr (inr (to_admin_options x reached t role is (Named name, to_reached a (Named name) (inr (granted x role is)) actor to, e)))))
 
-    pub asked_are : (t : Topic) → ((IsNameTopic x t ⊎ IsFarTopic x t) ⊎ IsSoughtTopic needs reached x t) ↔ IsAskedFor l x t
-    asked_are t = (
-      λ h. elim h [
-        | inl named ↦ elim named [
-          | inl name ↦ (asks.by_name name, own_name x t name)
-          | inr far ↦ (asks.by_far far, own_far x t far)
-        ]
-        | inr sought ↦ (to_asks t sought, own_sought needs reached x t sought)
-      ],
-      λ h. from_asks t h.0 h.1,
-    )
+    pub asked_is_put : (t : Topic) → IsAskedFor l x t → IsPutIn needs reached x t ⊎ Other t
+    asked_is_put t h = from_asks t h.0 h.1

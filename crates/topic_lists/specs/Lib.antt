@@ -1,3 +1,4 @@
 pub mod Actors
+pub mod Beside
 pub mod Needs
 pub mod Sought

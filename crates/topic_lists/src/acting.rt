@@ -1,6 +1,6 @@
 //! For whom the needs of an item are to be met, and whom this one reaches.
 
-ghost use Rattle.std.specs.Prelude.{◌↔◌, Contains, IfOk, OnOk};
+ghost use Rattle.std.specs.Prelude.{◌↔◌, Contains, IfOk, IsTrue, OnOk};
 ghost use Rattle.cat_items.specs.declared.need.Auth.{Auth};
 ghost use Rattle.cat_items.specs.Reach.{Reaches};
 ghost use Rattle.cat_items.specs.Relevant.{ActsInRight, IsActor, Owns};
@@ -104,12 +104,27 @@ fn reached_from(alloc: Global, c: &Catalogue, actor: Actor<'_>) -> Result<Vec<Au
     }
 }
 
-/// Whom the actor of an item reaches. `Err` is want of memory.
-pub fn reached(alloc: Global, c: &Catalogue, x: &Item) -> Result<Vec<Auth>, AllocError>
+fn reached(alloc: Global, c: &Catalogue, x: &Item) -> Result<Vec<Auth>, AllocError>
     ensures { IfOk result (λ all. (g : Auth) → Contains all.items g ↔ spec.IsReachedBy c.now.items x.now g) }
 {
     match actor_of(c, x) {
         None => Ok(Vec::new(alloc)),
         Some(actor) => reached_from(alloc, c, actor),
+    }
+}
+
+/// Whom the actor of an item reaches, where anything is looked for. `Err` is want of memory.
+pub fn reached_if(
+    alloc: Global,
+    c: &Catalogue,
+    x: &Item,
+    looks: bool,
+) -> Result<Vec<Auth>, AllocError>
+    ensures { IfOk result (λ all. (g : Auth) → Contains all.items g ↔ (IsTrue looks × spec.IsReachedBy c.now.items x.now g)) }
+{
+    if looks {
+        reached(alloc, c, x)
+    } else {
+        Ok(Vec::new(alloc))
     }
 }

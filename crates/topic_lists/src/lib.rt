@@ -2,6 +2,7 @@
 #![tactic(auto)]
 
 mod acting;
+mod beside;
 mod carried;
 mod each;
 mod lists;
@@ -9,4 +10,4 @@ mod own;
 mod pushing;
 mod sought;
 
-pub use lists::{asked, topics};
+pub use lists::{put_asked, topics};

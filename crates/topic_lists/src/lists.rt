@@ -1,15 +1,21 @@
 //! Topics of an item as lists of keys.
 
-ghost use Rattle.std.specs.Prelude.{IfOk};
+ghost use Rattle.std.specs.Prelude.{◌≡◌, ◌↔◌, ◌⊎◌, Contains, false, IfOk, OnOk};
+ghost use Rattle.std.specs.Option.{option_copied};
+ghost use Rattle.cat_items.specs.declared.need.Need.{Need};
+ghost use Rattle.cascade_laws.specs.Topics.{IsOwnNeed};
 ghost use Rattle.edit_rules.specs.Chosen.{AreAll};
-ghost use Rattle.topic_keys.specs.Lists.{IsKeyWhere};
+ghost use Rattle.topic_keys.specs.Lists.{Adds, Gets, IsKeyWhere};
+ghost use Rattle.topic_lists.specs.Beside.{HasAskedBefore};
+ghost use Rattle.topic_lists.specs.Needs.{IsFarNeed};
 ghost use Rattle.topic_lists.specs.Sought.{IsAskedFor, IsTopicOf};
 
-use crate::acting::reached;
+use crate::acting::reached_if;
+use crate::beside::is_beside;
 use crate::carried::push_far;
 use crate::own::push_own;
-use crate::sought::put_sought;
-use cat_items::{Catalogue, Item};
+use crate::sought::{looks, put_sought};
+use cat_items::{Catalogue, Item, Need};
 use sql_tree::Items;
 use std::alloc::{AllocError, Global};
 use topic_keys::{put_far_names, put_names};
@@ -21,25 +27,57 @@ pub fn topics(alloc: Global, c: &Catalogue, x: &Item) -> Result<Items<Item>, All
 {
     let mut needs = Vec::new(alloc);
     push_own(c, x, &mut needs)?;
-    let all = reached(alloc, c, x)?;
+    let needs = needs.as_slice();
+    let all = reached_if(alloc, c, x, looks(needs, x))?;
     let mut keys = Catalogue::of_sorted(Vec::new(alloc));
     put_names(alloc, &mut keys, x)?;
-    put_sought(alloc, &mut keys, x, needs.as_slice(), all.as_slice())?;
+    put_sought(alloc, &mut keys, x, needs, all.as_slice())?;
     Ok(Items::from_vec(keys.into_items()))
 }
 
-/// The keys of the topics under which all stands that an item's support can depend on, in order, where the catalogue has the
-/// schemas, views, columns and role authorizations. `Err` is want of memory.
-pub fn asked(alloc: Global, c: &Catalogue, x: &Item) -> Result<Items<Item>, AllocError>
-    ensures { IfOk result (λ keys. AreAll (IsKeyWhere (IsAskedFor c.now.items x.now)) keys) }
+fn push_far_unless(
+    c: &Catalogue,
+    x: &Item,
+    known: bool,
+    needs: &mut Vec<Need>,
+) -> Result<(), AllocError>
+    ensures { OnOk result (Gets (λ need. (known ≡ false) × IsFarNeed c.now.items x.now need) needs.old.items needs.new.items) }
+{
+    if known { Ok(()) } else { push_far(c, x, needs) }
+}
+
+/// The needs that an item looks for by itself, and, unless these are known, by way of others.
+fn needs_unless(
+    alloc: Global,
+    c: &Catalogue,
+    x: &Item,
+    known: bool,
+) -> Result<Vec<Need>, AllocError>
+    ensures { IfOk result (λ needs. (need : Need) → Contains needs.items need ↔ (IsOwnNeed c.now.items x.now need ⊎ ((known ≡ false) × IsFarNeed c.now.items x.now need))) }
 {
     let mut needs = Vec::new(alloc);
     push_own(c, x, &mut needs)?;
-    push_far(c, x, &mut needs)?;
-    let all = reached(alloc, c, x)?;
-    let mut keys = Catalogue::of_sorted(Vec::new(alloc));
-    put_names(alloc, &mut keys, x)?;
-    put_far_names(alloc, &mut keys, x)?;
-    put_sought(alloc, &mut keys, x, needs.as_slice(), all.as_slice())?;
-    Ok(Items::from_vec(keys.into_items()))
+    push_far_unless(c, x, known, &mut needs)?;
+    Ok(needs)
+}
+
+/// Puts in the keys of the topics under which all stands that an item's support can depend on, where the catalogue has the
+/// schemas, views, columns and role authorizations. All that the item before asks for is there already: where both are rights by the
+/// system to SELECT on one view, what they look for by way of it is not put in again. `Err` is want of memory.
+pub fn put_asked(
+    alloc: Global,
+    c: &Catalogue,
+    x: &Item,
+    before: Option<&Item>,
+    keys: &mut Catalogue,
+) -> Result<(), AllocError>
+    requires { HasAskedBefore c.now.items (option_copied before) keys.old.items }
+    ensures { OnOk result (Adds (IsAskedFor c.now.items x.now) keys.old.items keys.new.items) }
+{
+    let needs = needs_unless(alloc, c, x, is_beside(x, before))?;
+    let needs = needs.as_slice();
+    let all = reached_if(alloc, c, x, looks(needs, x))?;
+    put_names(alloc, keys, x)?;
+    put_far_names(alloc, keys, x)?;
+    put_sought(alloc, keys, x, needs, all.as_slice())
 }

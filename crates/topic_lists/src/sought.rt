@@ -140,7 +140,7 @@ fn is_role_grant(x: &Item) -> bool
 }
 
 /// Whether rights or admin options are looked for.
-fn looks(needs: &[Need], x: &Item) -> bool
+pub fn looks(needs: &[Need], x: &Item) -> bool
     ensures { IsTrue result ↔ spec.Looks needs.now x.now }
 {
     !needs.is_empty() || is_role_grant(x)

@@ -1,5 +1,7 @@
 use Rattle.std.proofs.Common.{◌≡◌, ◌≤◌, length}
 use Rattle.cat_items.specs.Supported.{Supported}
+use Rattle.role_graph.specs.Marked.{marked}
+use Rattle.part_rounds.specs.Options.{Knows}
 use Rattle.part_rounds.proofs.RoundLemmas.{HaveGrown}
 use Rattle.part_rounds.proofs.rounds.back.Given as goal
 
@@ -8,6 +10,7 @@ invariant-loop-at l = record {
   room : l.walk ≡ l.initial.walk;
   within : l.at ≤ length l.c.items;
   grown : HaveGrown (Supported l.c.items) l.c.items l.initial.marks l.marks;
+  found : Knows l.c.items (marked l.c.items l.marks) l.found;
 }
 
 abbrev pub decreases-loop-at : goal.decreases-loop-at

@@ -1,4 +1,3 @@
-use Rattle.std.proofs.Common.{◌∙◌}
 use Rattle.cat_items.specs.Supported.{Supported}
 use Rattle.part_rounds.proofs.RoundLemmas.{grown_on}
 use Rattle.part_rounds.proofs.rounds.both_ways.Goals as goal
