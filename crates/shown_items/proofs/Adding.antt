@@ -12,7 +12,7 @@ use Rattle.schema_tables.specs.TableRows.{Beside, IsBeside, rows}
 use Rattle.shown_items.specs.Faces.{HasFaceRow, AddsRows}
 
 -- the only element of a list of one
-only : {X : Type 0} (x y : X) → Contains (x ∷ []) y → y ≡ x
+pub only : {X : Type 0} (x y : X) → Contains (x ∷ []) y → y ≡ x
 only x y h = elim (Contains-cases x [] y h) [ inl e ↦ sym e | inr more ↦ absurd (Contains-nil y more) ]
 
 one_flag : (a b : Bool) (X : Type 0) → IsTrue a ↔ X → IsTrue b ↔ X → a ≡ b

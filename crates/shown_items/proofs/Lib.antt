@@ -1,7 +1,11 @@
 pub mod Adding
 pub mod Faces
+pub mod Found
 pub mod LooksShown
+pub mod Near
 pub mod Owning
 pub mod Positions
+pub mod Puts
 pub mod Reading
 pub mod Sides
+pub mod Spans

@@ -1,5 +1,9 @@
 -- Which tables have rows of a kind of descriptors.
 use Rattle.std.specs.Prelude.{Bool, true, false}
+use Rattle.cat_items.specs.declared.ranges.ObjectKind.{ObjectKind}
+use Rattle.cat_items.specs.declared.ranges.ObjectKind.TheVariants as object
+use Rattle.cat_items.specs.declared.ranges.Part.{Part}
+use Rattle.cat_items.specs.declared.ranges.Part.TheVariants.{Objects, Schema, Table, View, Columns, Domain, Routine}
 use Rattle.schema_tables.specs.declared.names.SchemaTable.{SchemaTable}
 use Rattle.schema_tables.specs.declared.names.SchemaTable.TheVariants as t
 
@@ -45,3 +49,48 @@ reads_rights t.RoleColumnGrants = true
 reads_rights t.RoleUsageGrants = true
 reads_rights t.RoleRoutineGrants = true
 reads_rights which = false
+
+abbrev pub reads_schemata : SchemaTable → Bool
+reads_schemata t.Schemata = true
+reads_schemata which = false
+
+abbrev pub reads_view_needs : SchemaTable → Bool
+reads_view_needs t.ViewTableUsage = true
+reads_view_needs t.ViewColumnUsage = true
+reads_view_needs which = false
+
+abbrev pub reads_routine_needs : SchemaTable → Bool
+reads_routine_needs t.RoutineTableUsage = true
+reads_routine_needs which = false
+
+abbrev pub reads_constraints : SchemaTable → Bool
+reads_constraints t.DomainConstraints = true
+reads_constraints t.TableConstraints = true
+reads_constraints t.ReferentialConstraints = true
+reads_constraints t.CheckConstraints = true
+reads_constraints t.KeyColumnUsage = true
+reads_constraints t.Assertions = true
+reads_constraints t.ConstraintTableUsage = true
+reads_constraints t.ConstraintColumnUsage = true
+reads_constraints t.CheckTableUsage = true
+reads_constraints t.CheckColumnUsage = true
+reads_constraints which = false
+
+-- what only the owner of a schema is shown of its objects
+abbrev pub reads_owned : SchemaTable → ObjectKind → Bool
+reads_owned which object.View = reads_view_needs which
+reads_owned which object.Routine = reads_routine_needs which
+reads_owned which object.Table = false
+reads_owned which object.Column = false
+reads_owned which object.Domain = false
+reads_owned which kind = reads_constraints which
+
+abbrev pub reads_part : SchemaTable → Part → Bool
+reads_part which (Schema name) = reads_schemata which
+reads_part which (Table key) = reads_tables which
+reads_part which (View key) = reads_views which
+reads_part which (Columns key) = reads_columns which
+reads_part which (Domain key) = reads_domains which
+reads_part which (Routine key) = reads_routines which
+reads_part which (Objects kind schema) = reads_owned which kind
+reads_part which part = true

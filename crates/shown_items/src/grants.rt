@@ -201,11 +201,13 @@ pub fn put_right(
     if !reads_rights(sight.table) {
         return Ok(());
     }
-    let may = sees_right(sight.viewer, x);
+    if !sees_right(sight.viewer, x) {
+        return Ok(());
+    }
     let beside = Beside {
         same: false,
         option: is_grantable(sight.c, x),
         role: is_of_role(sight.viewer, x),
     };
-    put_where(alloc, out, sight, may, Seen::Held(x), beside)
+    put_where(alloc, out, sight, true, Seen::Held(x), beside)
 }

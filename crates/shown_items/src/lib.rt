@@ -1,12 +1,14 @@
 //! The rows of schema tables, of what is shown of a catalogue to a session, or of all of it.
 #![tactic(auto)]
 
+mod candidates;
 mod columns;
 mod grants;
 mod items;
 mod looks;
 mod names;
 mod objects;
+mod own;
 mod putting;
 mod questions;
 mod reads;

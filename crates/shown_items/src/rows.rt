@@ -1,15 +1,20 @@
 //! The rows of a schema table.
 
-ghost use Rattle.std.specs.Prelude.{IfOk, OnOk};
+ghost use Rattle.std.specs.Prelude.{◌≡◌, IfOk, OnOk, false};
 ghost use Rattle.schema_tables.specs.Listings.{AreRows};
 ghost use Rattle.schema_tables.specs.Sight.{IsShown};
 ghost use Rattle.schema_tables.specs.TableRows.{HasRow};
 ghost use Rattle.shown_items.specs.Faces.{Adds, IsEnabledFace, IsItemFace};
+ghost use Rattle.shown_items.specs.Reads.{reads_rights, reads_roles};
 ghost use Rattle.shown_items.specs.Viewers.{viewer_of};
+ghost use Rattle.shown_items.specs.declared.session.Viewer.TheVariants as viewers;
 
+use crate::candidates::put_candidates;
 use crate::items::put_item;
+use crate::own::own_items;
 use crate::putting::{alone, put_where};
-use crate::session::Viewer;
+use crate::reads::{reads_rights, reads_roles};
+use crate::session::{Session, Viewer};
 use crate::sight::Sight;
 use cat_items::{Catalogue, Row};
 use role_graph::Walk;
@@ -29,8 +34,8 @@ fn put_enabled(alloc: Global, out: &mut Vec<Row>, sight: Sight<'_>) -> Result<()
     Ok(())
 }
 
-/// The rows of all items.
-fn put_items(alloc: Global, out: &mut Vec<Row>, sight: Sight<'_>) -> Result<(), AllocError>
+/// The rows of all items, by a look at each.
+fn put_all(alloc: Global, out: &mut Vec<Row>, sight: Sight<'_>) -> Result<(), AllocError>
     ensures { OnOk result (Adds sight.entry IsItemFace out.old.items out.new.items) }
 {
     let mut walk = Walk::new(alloc, sight.c)?;
@@ -39,6 +44,37 @@ fn put_items(alloc: Global, out: &mut Vec<Row>, sight: Sight<'_>) -> Result<(), 
         put_item(alloc, out, sight, &mut walk, at, &items[at])?;
     }
     Ok(())
+}
+
+/// The rows of all items, of a table of neither rights nor roles: by a look at what concerns the session, where that is little.
+fn put_seen(
+    alloc: Global,
+    out: &mut Vec<Row>,
+    sight: Sight<'_>,
+    session: Session<'_>,
+) -> Result<(), AllocError>
+    requires viewer { sight.viewer ≡ viewers.Session session }
+    requires rights { reads_rights sight.table ≡ false }
+    requires roles { reads_roles sight.table ≡ false }
+    ensures { OnOk result (Adds sight.entry IsItemFace out.old.items out.new.items) }
+{
+    match own_items(alloc, sight.c, session)? {
+        Some(own) => put_candidates(alloc, out, sight, own.as_slice()),
+        None => put_all(alloc, out, sight),
+    }
+}
+
+/// The rows of all items.
+fn put_items(alloc: Global, out: &mut Vec<Row>, sight: Sight<'_>) -> Result<(), AllocError>
+    ensures { OnOk result (Adds sight.entry IsItemFace out.old.items out.new.items) }
+{
+    if reads_rights(sight.table) || reads_roles(sight.table) {
+        return put_all(alloc, out, sight);
+    }
+    match sight.viewer {
+        Viewer::Whole => put_all(alloc, out, sight),
+        Viewer::Session(session) => put_seen(alloc, out, sight, session),
+    }
 }
 
 /// The rows of a table, of what is shown of a catalogue to one who looks at it: in order, and each once. `Err` is want of memory.

@@ -31,7 +31,7 @@ pub fn has_name(names: &[Name], name: &Name) -> bool
 }
 
 /// Whether a name is the user's, or that of an enabled role. It takes no memory.
-fn is_own(session: Session<'_>, name: &Name) -> bool
+pub fn is_own(session: Session<'_>, name: &Name) -> bool
     ensures { IsTrue result ↔ sight.IsOwn (session_of session.entry) name.now }
 {
     name.same(session.user) || has_name(session.enabled, name)

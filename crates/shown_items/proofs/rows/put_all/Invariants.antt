@@ -3,7 +3,7 @@ use Rattle.role_graph.specs.Roles.{IsRoomFor}
 use Rattle.shown_items.specs.Faces.{AddsRows, shown_to, IsFace}
 use Rattle.shown_items.specs.Viewers.{viewer_of}
 use Rattle.shown_items.proofs.Adding.{Among}
-use Rattle.shown_items.proofs.rows.put_items.Given as goal
+use Rattle.shown_items.proofs.rows.put_all.Given as goal
 
 -- the rows of the items so far
 abbrev pub invariant-loop-at : goal.invariant-loop-at

@@ -6,7 +6,7 @@ use Rattle.schema_tables.specs.Shown.{Shown}
 use Rattle.shown_items.specs.Faces.{AddsRows, shown_to, IsFace}
 use Rattle.shown_items.specs.Viewers.{viewer_of}
 use Rattle.shown_items.proofs.Adding.{Among, among_more, added_alike, two_added}
-use Rattle.shown_items.proofs.rows.put_items.Goals as goal
+use Rattle.shown_items.proofs.rows.put_all.Goals as goal
 
 pub loop-at-preserved : goal.loop-at-preserved
 loop-at-preserved c =
