@@ -1,3 +1,4 @@
 pub mod Settled
 pub mod ObjectLemmas
 pub mod RoleLemmas
+pub mod PartLemmas

@@ -1,3 +1,4 @@
 pub mod DroppedObjects
 pub mod DroppedRoles
 pub mod Drops
+pub mod Parts

@@ -3,6 +3,7 @@
 
 mod drops;
 mod objects;
+mod parts;
 mod roles;
 
 pub use drops::edit_drop;

@@ -11,9 +11,11 @@ ghost use Rattle.edit_rules.specs.Names as names;
 ghost use Rattle.edit_laws.specs.Sound.{IsSound};
 ghost use Rattle.drop_edit.specs.DroppedObjects as spec;
 
+use crate::parts::{assertion_parts, routine_parts, table_parts};
 use cat_items::{
     Catalogue, Edit, EditError, Item, ObjectKind, Part, Refusal, Who, objects_of, places,
 };
+use chosen_parts::chosen_in;
 use edit_rules::{Chooses, chosen, object_in, path_of, test_owner};
 use sql_tree::{Action, DropKind, Items, Object, ObjectName, Path};
 use std::alloc::{AllocError, Global};
@@ -161,14 +163,15 @@ impl<'a> Chooses for Dropped<'a> {
     }
 }
 
-/// All that goes with an object of this kind: its parts, and the privileges on it. It looks at each item of the catalogue.
-/// `Err` is want of memory.
+/// All that goes with an object of this kind: its parts, and the privileges on it. Where it is no domain, only where these stand is looked
+/// through: its own places, the constraints of its schema, and the privileges of each action on it. `Err` is want of memory.
 pub fn belongings(
     alloc: Global,
     c: &Catalogue,
     kind: DropKind,
     object: &Object,
 ) -> Result<Items<Item>, AllocError>
+    requires { IsGood c.now.items }
     ensures { IfOk result (λ found. AreChosen c.now.items (spec.GoesWith kind object.now) found) }
 {
     let path = path_of(object)?;
@@ -177,7 +180,14 @@ pub fn belongings(
         object,
         path: &path,
     };
-    chosen(alloc, c, &dropped)
+    match kind {
+        DropKind::Table | DropKind::View => chosen_in(alloc, c, &table_parts(object), &dropped),
+        DropKind::Domain => chosen(alloc, c, &dropped),
+        DropKind::Assertion => chosen_in(alloc, c, &assertion_parts(object), &dropped),
+        DropKind::Function | DropKind::Procedure | DropKind::Routine => {
+            chosen_in(alloc, c, &routine_parts(object), &dropped)
+        }
+    }
 }
 
 /// The edit of DROP TABLE, VIEW, ASSERTION, FUNCTION, PROCEDURE and ROUTINE, or the first of its refusals by the catalogue

@@ -1,0 +1,5 @@
+pub mod Covering
+pub mod Lying
+pub mod Passing
+pub mod Skipping
+pub mod Steps
