@@ -1,11 +1,9 @@
 -- CREATE ROLE is sound.
 use Rattle.std.proofs.Common.{◌≡◌, ◌⊎◌, inl, inr, ℕ, Bool, true, false, List, [], ◌∷◌, Option, Some, None, refl, sym, subst, ap, ◌∙◌}
 use Rattle.std.specs.List.{Contains}
-use Rattle.std.specs.Ordering.{nat_cmp, ordering_then}
-use Rattle.std.specs.FinMap.{nat_cmp-IsAntisymmetric}
 use Rattle.std.proofs.lemmas.Bool.{false≢true}
 use Rattle.std.specs.declared.cmp.Ordering.TheVariants.{Less, Equal, Greater}
-use Rattle.finite_chains.proofs.Members.{Contains-nil, Contains-head, Contains-tail, Contains-cases}
+use Rattle.finite_chains.proofs.Members.{Contains-nil, Contains-cases}
 use Rattle.sql_names.specs.Names.{name_cmp-IsAntisymmetric}
 use Rattle.sql_names.specs.declared.object.Object.{Object}
 use Rattle.cat_items.specs.declared.item.RoleGrant.{RoleGrant}
@@ -14,7 +12,7 @@ use Rattle.cat_items.specs.declared.item.Item.TheVariants as item
 use Rattle.cat_items.specs.Catalogues.{IsInOrder}
 use Rattle.cat_items.specs.Fit.{HasNewKey, IsFit}
 use Rattle.cat_items.specs.Good.{IsGood}
-use Rattle.cat_items.specs.Order.{item_cmp, kind_of, key_cmp, name_cmp}
+use Rattle.cat_items.specs.Order.{item_cmp}
 use Rattle.cat_items.specs.Reach.{Has, GrantsRole, Leads}
 use Rattle.cat_items.specs.Rights.{IsAuthorization, IsRole}
 use Rattle.cat_items.specs.Shape.{NameSet, authorizations, name_of, HasAllowedName, HasDerivedFields, HasProperLists, IsWellFormed, IsColumnOf}
@@ -28,7 +26,7 @@ use Rattle.edit_rules.proofs.ItemKeys.{only_granted}
 use Rattle.edit_laws.specs.Additions.{AddsProperly}
 use Rattle.edit_laws.specs.Kinds.{adding, IsKept}
 use Rattle.edit_laws.proofs.Fits.{fit_of_adding}
-use Rattle.edit_laws.proofs.GoodCatalogues.{good_order, role_of_auth_stands, grantee_of_auth_stands, auth_of_admin_stands}
+use Rattle.edit_laws.proofs.GoodCatalogues.{good_order, role_of_auth_stands, grantee_of_auth_stands}
 use Rattle.edit_laws.proofs.Shapes.{shape_of_edited, keeps_without_columns, view_columns_kept}
 use Rattle.role_edit.specs.CreatedRoles.{creating_role, grant_by_system, IsReservedRole, IsTaken}
 

@@ -1,30 +1,25 @@
 -- Edits that grant roles.
-use Rattle.std.proofs.Common.{◌≡◌, ◌⊎◌, inl, inr, ℕ, Bool, List, [], ◌∷◌, Some, None, refl, sym, subst}
+use Rattle.std.proofs.Common.{◌≡◌, ◌⊎◌, inl, inr, ℕ, Bool, List, [], ◌∷◌, Some, sym, subst}
 use Rattle.std.specs.List.{Contains}
-use Rattle.std.specs.declared.cmp.Ordering.TheVariants.{Equal}
 use Rattle.sql_names.specs.declared.object.Object.{Object}
 use Rattle.cat_items.specs.declared.edit.Edit.{Edit}
-use Rattle.cat_items.specs.declared.item.View.{View}
 use Rattle.cat_items.specs.declared.item.Item.{Item}
 use Rattle.cat_items.specs.declared.item.Item.TheVariants as item
-use Rattle.cat_items.specs.Catalogues.{IsInOrder}
-use Rattle.cat_items.specs.Edits.{IsEdited}
 use Rattle.cat_items.specs.Fit.{HasNewKey, IsFit}
 use Rattle.cat_items.specs.Good.{IsGood}
-use Rattle.cat_items.specs.Order.{item_cmp}
-use Rattle.cat_items.specs.Reach.{Has, GrantsRole, Leads}
+use Rattle.cat_items.specs.Reach.{GrantsRole, Leads}
 use Rattle.cat_items.specs.Shape.{NameSet, name_of, HasAllowedName, HasDerivedFields, HasProperLists, IsWellFormed, IsColumnOf}
 use Rattle.role_graph.specs.Cycles.{HasCycle, IsStep, StepsLead}
 use Rattle.edit_laws.specs.Sound.{IsSound}
-use Rattle.edit_rules.specs.Chosen.{AreAll, IsAdding, IsRightOrRoleGrant}
+use Rattle.edit_rules.specs.Chosen.{IsAdding, IsRightOrRoleGrant}
 use Rattle.edit_rules.proofs.ItemKeys.{only_granted}
-use Rattle.edit_laws.specs.Additions.{AddsProperly, IsEitherAdded}
+use Rattle.edit_laws.specs.Additions.{AddsProperly}
 use Rattle.edit_laws.specs.Kinds.{adding, IsKept}
 use Rattle.edit_laws.proofs.Fits.{fit_of_adding}
 use Rattle.edit_laws.proofs.GoodCatalogues.{good_order}
 use Rattle.edit_laws.proofs.Shapes.{shape_of_edited, keeps_without_columns, view_columns_kept}
 use Rattle.finite_chains.proofs.Members.{Contains-nil}
-use Rattle.role_edit.specs.GrantedRoles.{IsGrantBy, IsGrantedRole}
+use Rattle.role_edit.specs.GrantedRoles.{IsGrantedRole}
 
 -- a role authorization or an admin option
 abbrev pub IsRoleGrant : Item → Type 0

@@ -1,4 +1,5 @@
 pub mod Creating
+pub mod GrantPlaces
 pub mod Granting
 pub mod Options
 pub mod RoleLists

@@ -1,5 +1,5 @@
 -- Admin options that the grantor lacks.
-use Rattle.std.proofs.Common.{◌≡◌, ℕ, List, [], ◌∷◌, ◌++◌, map, Option, subst, sym, inl, inr}
+use Rattle.std.proofs.Common.{◌≡◌, ℕ, List, [], ◌∷◌, map, Option, subst, sym, inl, inr}
 use Rattle.std.specs.declared.result.Result.TheVariants.{Err}
 use Rattle.sql_tree.specs.declared.rights.Grantor.{Grantor}
 use Rattle.cat_items.specs.declared.edit.EditError.{EditError}
@@ -9,7 +9,7 @@ use Rattle.cat_items.specs.declared.edit.Who.{Who}
 use Rattle.cat_items.specs.declared.item.Item.{Item}
 use Rattle.cat_items.specs.declared.need.Need.{Need}
 use Rattle.cat_items.specs.Rights.{admin}
-use Rattle.edit_rules.specs.First.{First, Passes, IsTested, HasPassed}
+use Rattle.edit_rules.specs.First.{First, Passes, IsTested}
 use Rattle.edit_rules.specs.Grantors.{IsGrantor}
 use Rattle.edit_rules.specs.Privileges.{no_privilege}
 use Rattle.edit_rules.proofs.FirstLaws.{passes_one, passes_that}

@@ -1,5 +1,5 @@
 -- A statement on roles has at most one refusal, and makes at most one edit.
-use Rattle.std.proofs.Common.{◌≡◌, ℕ, List, [], ◌∷◌, map, Option, sym, subst, ap, ◌∙◌}
+use Rattle.std.proofs.Common.{◌≡◌, ℕ, List, map, Option, sym, subst, ap, ◌∙◌}
 use Rattle.sql_tree.specs.declared.rights.Grantor.{Grantor}
 use Rattle.sql_tree.specs.declared.statement.CreateRole.{CreateRole}
 use Rattle.sql_tree.specs.declared.statement.GrantRoles.{GrantRoles}
@@ -8,7 +8,6 @@ use Rattle.cat_items.specs.declared.edit.Edit.{Edit}
 use Rattle.cat_items.specs.declared.edit.Who.{Who}
 use Rattle.cat_items.specs.declared.item.Item.{Item}
 use Rattle.cat_items.specs.Rights.{admin}
-use Rattle.edit_rules.specs.Grantors.{no_current_role}
 use Rattle.edit_rules.specs.Names.{unknown_authorization, unknown_role}
 use Rattle.edit_rules.specs.Privileges.{no_privilege}
 use Rattle.edit_rules.proofs.FirstLaws.{IsSettled, AreSettled, settled_append, settled_map}

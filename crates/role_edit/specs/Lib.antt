@@ -1,4 +1,5 @@
 pub mod CreatedRoles
 pub mod GrantedRoles
+pub mod GrantParts
 pub mod RevokedRoles
 pub mod RoleEdits

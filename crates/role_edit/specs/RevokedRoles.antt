@@ -1,5 +1,5 @@
 -- REVOKE of roles (revoke statement, SQL:2003 part 2, 12.7).
-use Rattle.std.specs.Prelude.{◌≡◌, Bool, false, List}
+use Rattle.std.specs.Prelude.{◌≡◌, false, List}
 use Rattle.sql_names.specs.NameBytes.{NameBytes}
 use Rattle.sql_tree.specs.declared.statement.RevokeRoles.{RevokeRoles}
 use Rattle.cat_items.specs.declared.edit.Edit.{Edit}

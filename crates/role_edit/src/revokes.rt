@@ -6,13 +6,15 @@ ghost use Rattle.cat_items.specs.declared.need.Auth.TheVariants.{Named};
 ghost use Rattle.edit_rules.specs.First.{IsTested};
 ghost use Rattle.edit_laws.specs.Sound.{IsSound};
 ghost use Rattle.role_edit.specs.GrantedRoles.{IsGrantBy};
+ghost use Rattle.role_edit.specs.GrantParts.{HoldGrantsOf};
 ghost use Rattle.role_edit.specs.RevokedRoles as spec;
 
 use crate::names::grantor_of_roles;
-use cat_items::{Auth, Catalogue, Edit, EditError, Item, RoleGrant, Who};
-use edit_rules::{Chooses, chosen};
+use cat_items::{Auth, Catalogue, Edit, EditError, Item, Part, RoleGrant, Who};
+use chosen_parts::chosen_in;
+use edit_rules::Chooses;
 use sql_tree::{Items, Name, RevokeRoles};
-use std::alloc::Global;
+use std::alloc::{AllocError, Global};
 
 /// Whether a name is among these.
 fn is_among(name: &Name, names: &Items<Name>) -> bool
@@ -67,7 +69,19 @@ impl<'a> Chooses for Identified<'a> {
     }
 }
 
-/// The edit of REVOKE of roles.
+/// The parts of a catalogue in which the grants of these roles stand, and their admin options.
+fn parts_of<'a>(alloc: Global, roles: &'a Items<Name>) -> Result<Vec<Part<'a>>, AllocError>
+    ensures { IfOk result (λ parts. HoldGrantsOf roles.now parts.items) }
+{
+    let mut parts = Vec::new(alloc);
+    for role in roles.as_slice() {
+        parts.push(Part::RoleGrants(role))?;
+        parts.push(Part::AdminOptions(role))?;
+    }
+    Ok(parts)
+}
+
+/// The edit of REVOKE of roles. It looks at the grants of these roles alone.
 pub fn revoke_roles(
     alloc: Global,
     c: &Catalogue,
@@ -83,7 +97,8 @@ pub fn revoke_roles(
         grantor: &grantor,
         parts,
     };
-    let target = chosen(alloc, c, &test)?;
+    let places = parts_of(alloc, &parts.roles)?;
+    let target = chosen_in(alloc, c, &places, &test)?;
     Ok(Edit {
         target,
         changed: Items::new(alloc),

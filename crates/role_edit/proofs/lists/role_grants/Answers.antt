@@ -1,4 +1,4 @@
-use Rattle.std.proofs.Common.{◌≡◌, ◌↔◌, ℕ, List, length, ◌≤◌, subst, sym, ◌∙◌}
+use Rattle.std.proofs.Common.{◌↔◌, ℕ, List, length, ◌≤◌, subst, sym, ◌∙◌}
 use Rattle.std.specs.List.{Contains}
 use Rattle.std.proofs.lemmas.List.{take_all}
 use Rattle.cat_items.specs.declared.item.Item.{Item}
