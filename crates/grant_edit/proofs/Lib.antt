@@ -4,6 +4,7 @@ pub mod Lists
 pub mod NamedLemmas
 pub mod RevokeLemmas
 pub mod RightLemmas
+pub mod RightPlaces
 pub mod Settled
 pub mod Soundness
 pub mod StatementLemmas

@@ -6,6 +6,7 @@ mod named;
 mod revokes;
 mod rights;
 mod statements;
+mod taking;
 mod targets;
 
 pub use grants::Granting;

@@ -1,18 +1,15 @@
 //! The rights that REVOKE takes.
 
-ghost use Rattle.std.specs.Prelude.{◌≡◌, ◌↔◌, IfOk, IsTrue};
+ghost use Rattle.std.specs.Prelude.{◌≡◌, ◌↔◌, IsTrue};
 ghost use Rattle.std.specs.List.{Contains};
-ghost use Rattle.cat_items.specs.declared.item.Item.{Item};
 ghost use Rattle.cat_items.specs.declared.need.Need.{Need};
 ghost use Rattle.cat_items.specs.declared.need.Auth.TheVariants.{Named};
-ghost use Rattle.cat_items.specs.Catalogues.{IsInOrder};
 ghost use Rattle.cat_items.specs.Rights.{path_of};
 ghost use Rattle.grant_edit.specs.Named.{grantee_auth, named_grantees};
 ghost use Rattle.grant_edit.specs.Revokes as spec;
 
-use cat_items::{Auth, Catalogue, Item, Need, Right};
+use cat_items::{Auth, Item, Need, Right};
 use sql_tree::{Grantee, Items, Name, Object};
-use std::alloc::{AllocError, Global};
 
 /// What is revoked, from whom and by whom.
 #[derive(Clone, Copy)]
@@ -101,7 +98,7 @@ fn is_revoked_right(revoking: Revoking<'_>, right: &Right) -> bool
 }
 
 /// Whether an item is identified.
-fn is_identified(revoking: Revoking<'_>, x: &Item) -> bool
+pub(crate) fn is_identified(revoking: Revoking<'_>, x: &Item) -> bool
     requires { (n : Need) → Contains revoking.named.now.items n → n.on ≡ path_of revoking.object.now }
     ensures { IsTrue result ↔ spec.IsIdentifiedRight (spec.revoked_of revoking.entry) x.now }
 {
@@ -110,23 +107,4 @@ fn is_identified(revoking: Revoking<'_>, x: &Item) -> bool
         Item::Grantable(right) => is_revoked_right(revoking, right.get()),
         _ => false,
     }
-}
-
-/// The items that are identified, in order.
-pub fn identified(
-    alloc: Global,
-    c: &Catalogue,
-    revoking: Revoking<'_>,
-) -> Result<Items<Item>, AllocError>
-    requires { (n : Need) → Contains revoking.named.now.items n → n.on ≡ path_of revoking.object.now }
-    ensures order { IfOk result IsInOrder }
-    ensures members { IfOk result (λ target. (x : Item) → Contains target x ↔ (Contains c.now.items x × spec.IsIdentifiedRight (spec.revoked_of revoking.entry) x)) }
-{
-    let mut target = Items::new(alloc);
-    for x in c.items() {
-        if is_identified(revoking, x) {
-            target.push(x.copy()?)?;
-        }
-    }
-    Ok(target)
 }

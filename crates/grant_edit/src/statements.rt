@@ -13,8 +13,9 @@ ghost use Rattle.grant_edit.specs.Statements as spec;
 
 use crate::grants::{Granted, Granting, find_granted};
 use crate::named::{named_privileges, refused};
-use crate::revokes::{Revoking, identified};
+use crate::revokes::Revoking;
 use crate::rights::grants;
+use crate::taking::identified;
 use crate::targets::test_names;
 use cat_items::{Catalogue, Edit, EditError, Item, Need, Refusal, Who};
 use edit_rules::{grantor_of, object_in};
