@@ -1,11 +1,20 @@
 -- Which rights are identified.
-use Rattle.std.proofs.Common.{◌≡◌, inl, inr, ℕ, List, Option, Some, None, sym, subst, refl, ◌∙◌}
+use Rattle.std.proofs.Common.{◌≡◌, ◌⊎◌, ◌↔◌, inl, inr, ℕ, List, [], ◌∷◌, ◌++◌, Option, Some, None, take, sym, subst, refl, ◌∙◌}
 use Rattle.std.specs.List.{Contains}
+use Rattle.std.specs.declared.cmp.Ordering.TheVariants.{Less}
+use Rattle.finite_chains.specs.StrictOrder.{IsRising}
+use Rattle.finite_chains.proofs.Members.{Contains-nil, Contains-head}
 use Rattle.sql_names.specs.declared.object.Object.{Object}
 use Rattle.cat_items.specs.declared.need.Need.{Need}
+use Rattle.cat_items.specs.declared.item.Item.{Item}
+use Rattle.cat_items.specs.Catalogues.{IsInOrder}
 use Rattle.cat_items.specs.Needs.{object_need}
+use Rattle.cat_items.specs.Order.{item_cmp}
 use Rattle.cat_items.specs.Rights.{path_of}
+use Rattle.cat_items.proofs.CatalogueLemmas.{rising, in_order}
+use Rattle.cat_items.proofs.Rising.{rising_append, rising_left, rising_across}
 use Rattle.grant_edit.specs.Revokes.{Covers, CoversColumn, IsRevoked}
+use Rattle.grant_edit.proofs.Lists.{contains_one, contains_push}
 use Rattle.grant_edit.proofs.NamedLemmas.{same_need}
 
 -- ---- what is revoked

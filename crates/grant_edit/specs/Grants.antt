@@ -1,5 +1,5 @@
 -- GRANT of privileges: what can be granted, and what is (grant privilege statement, SQL:2003 part 2, 12.2).
-use Rattle.std.specs.Prelude.{◌≡◌, ◌⊎◌, ◌↔◌, Bool, true, false, List, IsTrue}
+use Rattle.std.specs.Prelude.{◌≡◌, ◌⊎◌, ◌↔◌, Bool, true, false, List, [], IsTrue}
 use Rattle.std.specs.List.{Contains}
 use Rattle.sql_names.specs.NameBytes.{NameBytes}
 use Rattle.sql_names.specs.declared.object.Object.{Object}
