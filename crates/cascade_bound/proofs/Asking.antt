@@ -1,5 +1,5 @@
 -- How many topics an item of the catalogue asks for over a part of what is spoken of.
-use Rattle.std.proofs.Common.{◌≡◌, ◌⊎◌, inl, inr, ℕ, ◌≤◌, List, [], ◌∷◌, ◌++◌, length, refl, sym, subst, arith}
+use Rattle.std.proofs.Common.{◌≡◌, ◌⊎◌, inl, inr, ℕ, ◌+◌, ◌≤◌, List, [], ◌∷◌, ◌++◌, length, refl, sym, subst, arith}
 use Rattle.std.specs.Prelude.{◌≢◌, ◌*◌}
 use Rattle.std.specs.List.{AllPairs, Contains, sum_by}
 use Rattle.std.proofs.lemmas.List.{length-append}
@@ -13,9 +13,9 @@ use Rattle.cat_items.specs.declared.need.Need.{Need}
 use Rattle.cat_items.specs.declared.item.Right.{Right}
 use Rattle.cat_items.specs.declared.item.Item.{Item}
 use Rattle.cat_items.specs.declared.item.Item.TheVariants as item
-use Rattle.cat_items.specs.Bound.{HasRelevant, square}
+use Rattle.cat_items.specs.Bound.{HasRelevant, Lists, square}
 use Rattle.cat_items.specs.Good.{IsGood}
-use Rattle.cat_items.specs.Relevant.{IsNeedOf, IsRightNeed}
+use Rattle.cat_items.specs.Relevant.{IsNeedOf, IsRightNeed, Relevant}
 use Rattle.cat_items.specs.Shape.{HasDerivedFields}
 use Rattle.cat_items.specs.Supported.{Supported}
 use Rattle.cascade_laws.specs.Asks.{Asks, IsFarTopic, IsFarRightTopic, IsFirstTopic, by_name, by_far, by_option, of_need, of_supply, of_edges, of_admins}
@@ -25,6 +25,7 @@ use Rattle.look_up_bound.specs.PossibleRights.{IsBySystem}
 use Rattle.look_up_bound.specs.TopicParts.{HasParts, MayLackParts, by_column, by_object, by_system}
 use Rattle.look_up_bound.proofs.Counting.{at_head, no_longer, once}
 use Rattle.look_up_bound.proofs.Few.{asked_few}
+use Rattle.look_up_bound.proofs.Sharp.{asked_most, most_topics}
 use Rattle.look_up_bound.proofs.Standing.{asked_stands, column_kept, parts_more, sought_stands}
 use Rattle.look_up_bound.proofs.Survivor.{survivor_supported}
 use Rattle.cascade_bound.proofs.Groups.{split}
@@ -160,6 +161,22 @@ module _ (c u part : List Item) (good : IsGood c) (within : IsWithin c u) (part_
         ones parts.0,
         ones parts.1,
         asked_few u part x n parts.0 part_within relevant (once_pairs parts.0 both.0) (λ t ht. let p = parts.2.left t ht in (asks t p.0, p.1)),
+        no_longer parts.1 (far_topics x) both.1 (λ t ht. far_listed x t (parts.2.right t ht).1),
+        far_few x,
+      )
+
+  -- and no more than three beside what its parts, schemas and role authorizations tell
+  pub old_asks_most : (xs : List Item) → Lists (λ y. Contains u y × Relevant u y x) xs → (topics : List Topic) → AllPairs (λ s t. s ≢ t) topics → ((t : Topic) → Contains topics t → Asks part x t) → length topics ≤ most_topics x xs + 3
+  old_asks_most xs lists topics differ asks =
+      let parts = split (HasParts u) (IsFarTopic x) topics (λ t ht. there_or_far t (asks t ht)) in
+      let both = parts.2.once (once topics differ) in
+      omega (
+        arith,
+        parts.2.sums (λ t. 1),
+        ones topics,
+        ones parts.0,
+        ones parts.1,
+        asked_most u part xs part_within parts.0 (once_pairs parts.0 both.0) x lists (λ t ht. let p = parts.2.left t ht in (asks t p.0, p.1)),
         no_longer parts.1 (far_topics x) both.1 (λ t ht. far_listed x t (parts.2.right t ht).1),
         far_few x,
       )

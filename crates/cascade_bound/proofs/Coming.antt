@@ -56,7 +56,7 @@ chain_in : {X : Type 0} (sup : List X → X → Type 0) (c chain : List X) → I
 chain_in sup c [] is x h = absurd (Contains-nil x h)
 chain_in sup c (y ∷ chain) is x h = elim (Contains-cases y chain x h) [ inl e ↦ subst (Contains c) e is.0 | inr later ↦ chain_in sup c chain is.2 x later ]
 
-length-option : {X : Type 0} (o : Option X) → length (option_to_list o) ≤ 1
+pub length-option : {X : Type 0} (o : Option X) → length (option_to_list o) ≤ 1
 length-option None = omega arith
 length-option (Some x) = omega arith
 
@@ -82,7 +82,7 @@ right_derived c (item.Held r) is = tt
 right_derived c (item.Grantable r) is = tt
 right_derived c _ is = absurd is
 
-is_right : (c : List Item) (x : Item) → IsSystemRight c x → IsRight x
+pub is_right : (c : List Item) (x : Item) → IsSystemRight c x → IsRight x
 is_right c (item.Held r) is = tt
 is_right c (item.Grantable r) is = tt
 is_right c _ is = absurd is
@@ -144,10 +144,10 @@ module _ (g : Graph Item) (c edited f : List Item) (edit : Edit) (marks own : Li
     pub new_in : IsWithin new f
     new_in x h = let s = (survive.members x).0 h in chain_in (Supported f) f s.0 s.1 x s.2
 
-    new_spoken : IsWithin new u
+    pub new_spoken : IsWithin new u
     new_spoken x h = spoken x (new_in x h)
 
-    derived : (x : Item) → Contains new x → HasDerivedFields x
+    pub derived : (x : Item) → Contains new x → HasDerivedFields x
     derived x h = elim ((with_f.members x).0 (new_in x h)) [
       | inr right ↦ right_derived edited x right
       | inl here ↦ (elim ((fit.is_edited.members x).0 here) [ inl old ↦ good.shape.derived x old.0 | inr added ↦ fit.derived x added ])

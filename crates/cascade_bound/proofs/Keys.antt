@@ -45,3 +45,25 @@ module _ (g : Graph Item) (c u part : List Item) (no_c : HasNoHelper c) (whole :
       let e = all.1.has by.0 by.1 in
       (e.0, e.1, subst (λ x. (t : Topic) × IsAskedFor part x t × (k ≡ topic_key t)) (sym e.2) by.2)) (λ e h group o inside. one_asks e h group o (λ k hk. (inside k hk).1)) in
       omega (arith, all_paid, all.1.sums (λ n. 6 * asks n + 4 * n))
+
+-- the same, where how many topics it asks for goes by the suspect
+module _ (g : Graph Item) (c u part : List Item) (no_c : HasNoHelper c) (whole : IsWhole same.ghosts.eq g) (full : IsFullBoard g c) (within : IsWithin c u) (part_within : IsWithin part u) (suspects : List Item) (relevant : List ℕ) (es : List (Entry u)) (are : AreEntries u suspects relevant es)
+    (asks : Entry u → ℕ) (few : (e : Entry u) (topics : List Topic) → Contains es e → IsOnce topics → ((t : Topic) → Contains topics t → IsAskedFor part e.0 t) → length topics ≤ asks e) where
+  abbrev Asked : Entry u → Item → Type 0
+  Asked e k = (t : Topic) × IsAskedFor part e.0 t × (k ≡ topic_key t)
+
+  one_suspect : (e : Entry u) → Contains es e → (keys : List Item) → IsOnce keys → ((k : Item) → Contains keys k → Asked e k) → sum_by (look_ups g) keys ≤ 6 * asks e + 4 * length e.1
+  one_suspect e h keys o each =
+      let has : HasRelevant u e.0 (length e.1) = (e.1, (are.of e h).1, refl) in
+      let picked = chosen (λ k t. IsAskedFor part e.0 t × (k ≡ topic_key t)) (λ j k t a d. a.1 ∙ sym d.1) keys o (λ k hk. let is = each k hk in (is.0, (is.1, is.2))) in
+      let topics = picked.0 in
+      let asked : (t : Topic) → Contains topics t → IsAskedFor part e.0 t = λ t ht. (picked.1.of t ht).2.0 in
+      let same_sum = picked.1.sums (look_ups g) (λ t. look_ups g (topic_key t)) (λ k t hk is. omega (arith, ap (look_ups g) is.1)) in
+      omega (arith, same_sum, asked_few g c no_c whole full u part e.0 (length e.1) topics within part_within has (once_pairs topics picked.1.once) asked, few e topics h picked.1.once asked)
+
+  pub keys_most : (keys : List Item) → IsOnce keys → ((k : Item) → Contains keys k → IsAskedBy part suspects k) → sum_by (look_ups g) keys ≤ sum_by (λ e. 6 * asks e + 4 * length e.1) es
+  keys_most keys o each =
+      charged Asked (look_ups g) (λ (e : Entry u). 6 * asks e + 4 * length e.1) es keys o (λ k h.
+      let by = each k h in
+      let e = are.has by.0 by.1 in
+      (e.0, e.1, subst (λ x. (t : Topic) × IsAskedFor part x t × (k ≡ topic_key t)) (sym e.2) by.2)) (λ e h group og inside. one_suspect e h group og (λ k hk. (inside k hk).1))

@@ -57,7 +57,7 @@ at_most_one f most [] o one each = omega arith
 at_most_one f most (x ∷ []) o one each = omega (arith, each x (Contains-head x []), sum_by-cons f x [])
 at_most_one f most (x ∷ y ∷ xs) o one each = absurd (o.0 (subst (Contains (y ∷ xs)) (one y x (Contains-tail x (y ∷ xs) y (Contains-head y xs)) (Contains-head x (y ∷ xs))) (Contains-head y xs)))
 
-linear : (f : ℕ → ℕ) (xs : List ℕ) → sum_by (λ n. 4 * f n + 31) xs ≡ 4 * sum_by f xs + 31 * length xs
+pub linear : (f : ℕ → ℕ) (xs : List ℕ) → sum_by (λ n. 4 * f n + 31) xs ≡ 4 * sum_by f xs + 31 * length xs
 linear f [] = refl
 linear f (x ∷ xs) = omega (arith, linear f xs, sum_by-cons f x xs, sum_by-cons (λ n. 4 * f n + 31) x xs)
 
@@ -115,14 +115,14 @@ module _ (g : Graph Item) (c edited : List Item) (edit : Edit) (marks own : List
   abbrev cost : ℕ → ℕ
   cost n = 4 * links n + 31
 
-  all : (es : List (Entry u)) × AreEntries u b.suspects b.relevant es
+  abbrev all : (es : List (Entry u)) × AreEntries u b.suspects b.relevant es
   all = entries u b.suspects b.relevant b.counts
 
   -- the number is of the item
   abbrev IsIt : Item → ℕ → Type 0
   IsIt x n = (k : Item) × HasKey g n k × IsKeyOf c x k
 
-  it_once : (x : Item) (m n : ℕ) → IsIt x m → IsIt x n → m ≡ n
+  pub it_once : (x : Item) (m n : ℕ) → IsIt x m → IsIt x n → m ≡ n
   it_once x m n (j, at, key) (k, at2, key2) = on.whole.distinct m n j k at at2 (subst (λ i. same.ghosts.eq j i ≡ true) (one_key c x j k key key2) (same_itself j))
 
   -- a right that the system could grant, that doesn't stand, and for which the item pays
@@ -140,7 +140,7 @@ module _ (g : Graph Item) (c edited : List Item) (edit : Edit) (marks own : List
         let it = is n h in
         omega (arith, links_few g c u good on.whole on.full within n p it.0 it.1 it.2 (length rel) (rel, lists, refl)))
 
-    owed_few : (ns : List ℕ) → IsOnce ns → ((n : ℕ) → Contains ns n → Owes p n) → sum_by cost ns ≤ rights_on p * (8 * count_by leads_on rel + 55)
+    pub owed_few : (ns : List ℕ) → IsOnce ns → ((n : ℕ) → Contains ns n → Owes p n) → sum_by cost ns ≤ rights_on p * (8 * count_by leads_on rel + 55)
     owed_few ns o is =
         let most_links = 8 * count_by leads_on rel + 55 in
         let picked = chosen (λ n y. IsIt y n × IsOwing p y) (λ m n y im in_n. it_once y m n im.0 in_n.0) ns o (λ n h. let owes = is n h in (owes.0, (owes.1, owes.2))) in
@@ -164,7 +164,7 @@ module _ (g : Graph Item) (c edited : List Item) (edit : Edit) (marks own : List
 
   -- ---- who pays
 
-  payer_of : (n : ℕ) → Contains own n → (e : Entry u) × Contains all.0 e × (IsIt e.0 n ⊎ Owes e.0 n)
+  pub payer_of : (n : ℕ) → Contains own n → (e : Entry u) × Contains all.0 e × (IsIt e.0 n ⊎ Owes e.0 n)
   payer_of n h =
       let known = (on.known.exactly n).0 h in
       let x = known.1.0 in
@@ -190,11 +190,14 @@ module _ (g : Graph Item) (c edited : List Item) (edit : Edit) (marks own : List
           let e = all.1.has paid.payer ((b.are_suspects.members paid.payer).1 paid.suspect) in
           (e.0, e.1, inr (x, (k, has, key), (possible, none, subst (λ p. IsPaidBy c p x) (sym e.2) paid.pays)))
 
+  pub own_once : IsOnce own
+  own_once = once own on.known.once
+
   own_paid : sum_by cost own ≤ sum_by (λ (e : Entry u). 59 * square (length e.1) - 20) all.0
   own_paid = charged (λ (e : Entry u) (n : ℕ). IsIt e.0 n ⊎ Owes e.0 n) cost (λ (e : Entry u). 59 * square (length e.1) - 20) all.0 own (once own on.known.once) payer_of (λ e h group o inside.
       let of = all.1.of e h in pays e.0 e.1 of.1 group o (λ n hn. (inside n hn).1))
 
-  added_paid : 20 * length edit.added ≤ sum_by (λ (e : Entry u). 20) all.0
+  pub added_paid : 20 * length edit.added ≤ sum_by (λ (e : Entry u). 20) all.0
   added_paid =
       let each = charged (λ (e : Entry u) (x : Item). e.0 ≡ x) (λ x. 20) (λ (e : Entry u). 20) all.0 edit.added (order_once edit.added fit.added_order) (λ x h.
       let e = all.1.has x ((b.are_suspects.members x).1 (bound.of_added x h)) in (e.0, e.1, e.2)) (λ e h group o inside. at_most_one (λ x. 20) 20 group o (λ a z ha hz. sym (inside a ha).1 ∙ (inside z hz).1) (λ x hx. omega arith)) in
@@ -210,7 +213,7 @@ module _ (g : Graph Item) (c edited : List Item) (edit : Edit) (marks own : List
       omega (arith, picked.1.size, no_longer picked.0 own picked.1.once (λ n h. let of = picked.1.of n h in (on.known.exactly n).1 (of.2.1, (of.0, of.0, of.2.0, of_item (in_c of.0 of.1) refl))))
 
   -- what the edit destroys and changes
-  taken_few : length edit.target + length edit.changed ≤ length own
+  pub taken_few : length edit.target + length edit.changed ≤ length own
   taken_few =
       let both = edit.target ++ edit.changed in
       let apart = once_append edit.target edit.changed (order_once edit.target fit.target_order) (order_once edit.changed fit.changed_order) (λ x t h. (fit.apart x h).0 t) in
@@ -218,11 +221,32 @@ module _ (g : Graph Item) (c edited : List Item) (edit : Edit) (marks own : List
       let seed : (x : Item) → Contains both x → seeds.IsSeedKey edit x = λ x h. elim (Contains-append_cases edit.target edit.changed x h) [ inl t ↦ seeds.of_target t | inr h ↦ seeds.of_changed h ] in
       omega (arith, marked_once both apart in_c seed, length-append edit.target edit.changed)
 
+  two_sums : (f g all : Entry u → ℕ) (es : List (Entry u)) → ((e : Entry u) → f e + g e ≤ all e) → sum_by f es + sum_by g es ≤ sum_by all es
+  two_sums f g all [] each = omega arith
+  two_sums f g all (e ∷ es) each = omega (arith, two_sums f g all es each, each e, sum_by-cons f e es, sum_by-cons g e es, sum_by-cons all e es)
+
+  -- what is touched is reached, and its keys are read
+  pub begins_within : seed_look_ups edit + sum_by (look_ups g.dependents) marks + length marks ≤ most
+  begins_within =
+      omega (
+        arith,
+        board.ticks g c edit marks own on,
+        board.few g c edit marks own on,
+        taken_few,
+        linear links own,
+        own_paid,
+        added_paid,
+        two_sums (λ (e : Entry u). 59 * square (length e.1) - 20) (λ e. 20) (λ (e : Entry u). 64 * square (length e.1)) all.0 (λ e. omega (arith, some_square (length e.1))),
+        all.1.sums (λ n. 64 * square n),
+        most_of_all b.relevant,
+        b.is,
+      )
+
   -- ---- what comes
 
   module _ (f fresh new : List Item) (with_f : IsWithSystem edited f) (are_fresh : AreFresh c edited fresh) (survive : AreSurvivors f new) (arrivals : List Arrival) (are : AreArrivals new (is_suspect g marks edit.added fresh) arrivals) where
     -- one arrival has a key
-    one_arrival : (a d : Arrival) → Contains arrivals a → Contains arrivals d → a.key ≡ d.key → a ≡ d
+    pub one_arrival : (a d : Arrival) → Contains arrivals a → Contains arrivals d → a.key ≡ d.key → a ≡ d
     one_arrival a d (i, wi, ei) (j, wj, ej) e = elim (cases_lt i j) [
       | inl before ↦ absurd (are.once i j a before wj (ap (λ (z : Arrival). z.key) ei ∙ e ∙ sym (ap (λ (z : Arrival). z.key) (get_or_default arrivals j a d wj ∙ ej))))
       | inr later ↦ (elim (cases_lt j i) [
@@ -233,7 +257,7 @@ module _ (g : Graph Item) (c edited : List Item) (edit : Edit) (marks own : List
       ])
     ]
 
-    arrivals_once : IsOnce arrivals
+    pub arrivals_once : IsOnce arrivals
     arrivals_once = once arrivals (λ i j d low high e. are.once i j d low high (ap (λ (z : Arrival). z.key) e))
 
     comes_paid : sum_by (λ a. length (links_by a)) arrivals ≤ sum_by (λ (e : Entry u). 5 * square (length e.1)) all.0

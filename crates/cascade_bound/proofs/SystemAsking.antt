@@ -1,5 +1,5 @@
 -- How many topics a right by the system asks for over a part, where what views and routines of the part need stands.
-use Rattle.std.proofs.Common.{◌≡◌, ◌⊎◌, inl, inr, ℕ, ◌+◌, ◌<◌, ◌≤◌, List, [], ◌∷◌, ◌++◌, length, Option, Some, None, sym, subst, arith}
+use Rattle.std.proofs.Common.{◌≡◌, ◌⊎◌, inl, inr, ℕ, ◌+◌, ◌<◌, ◌≤◌, List, [], ◌∷◌, ◌++◌, length, Option, Some, None, refl, sym, subst, arith}
 use Rattle.std.specs.Prelude.{◌≢◌, ◌*◌}
 use Rattle.std.specs.List.{AllPairs, Contains}
 use Rattle.std.proofs.lemmas.List.{length-append}
@@ -17,10 +17,10 @@ use Rattle.cat_items.specs.declared.item.Routine.{Routine}
 use Rattle.cat_items.specs.declared.item.View.{View}
 use Rattle.cat_items.specs.declared.item.Item.{Item}
 use Rattle.cat_items.specs.declared.item.Item.TheVariants as item
-use Rattle.cat_items.specs.Bound.{HasRelevant, square}
+use Rattle.cat_items.specs.Bound.{HasRelevant, Lists, square}
 use Rattle.cat_items.specs.Catalogues.{IsInOrder}
 use Rattle.cat_items.specs.Reach.{Has}
-use Rattle.cat_items.specs.Relevant.{IsNeedOf, IsObjectNeed, IsRightNeed, IsRoutineNeed, IsViewNeed}
+use Rattle.cat_items.specs.Relevant.{IsNeedOf, IsObjectNeed, IsRightNeed, IsRoutineNeed, IsViewNeed, Relevant}
 use Rattle.cat_items.specs.Rights.{Stands}
 use Rattle.cat_items.specs.SystemRights.{security_of}
 use Rattle.cascade_laws.specs.Asks.{Asks, IsFarTopic}
@@ -32,8 +32,9 @@ use Rattle.look_up_bound.specs.TopicParts.{HasParts}
 use Rattle.look_up_bound.proofs.Standing.{need_there}
 use Rattle.look_up_bound.proofs.Counting.{at_head, no_longer, once}
 use Rattle.look_up_bound.proofs.Few.{asked_few}
-use Rattle.look_up_bound.proofs.ManyNeeds.{system_topics_few}
+use Rattle.look_up_bound.proofs.ManyNeeds.{system_topics_few, system_topics_most}
 use Rattle.look_up_bound.proofs.OneKey.{one_view}
+use Rattle.look_up_bound.proofs.Sharp.{asked_most, most_plain, most_topics, system_given}
 use Rattle.cascade_bound.specs.Missing.{NeedsStand}
 use Rattle.cascade_bound.proofs.Asking.{far_few, far_listed, far_topics, ones}
 use Rattle.cascade_bound.proofs.Groups.{split}
@@ -41,13 +42,13 @@ use Rattle.cascade_bound.proofs.Items.{once_pairs}
 
 -- ---- actions that change what a plain view shows
 
-abbrev IsUpdating : Action → Type 0
+abbrev pub IsUpdating : Action → Type 0
 IsUpdating action.Insert = Unit {0}
 IsUpdating action.Update = Unit {0}
 IsUpdating action.Delete = Unit {0}
 IsUpdating by = ⊥
 
-updating_or_not : (by : Action) → IsUpdating by ⊎ (¬ (IsUpdating by))
+pub updating_or_not : (by : Action) → IsUpdating by ⊎ (¬ (IsUpdating by))
 updating_or_not action.Insert = inl tt
 updating_or_not action.Update = inl tt
 updating_or_not action.Delete = inl tt
@@ -66,7 +67,7 @@ view_updating l v action.Usage column need by is = absurd by
 view_updating l v action.Execute column need by is = absurd by
 view_updating l v action.Admin column need by is = absurd by
 
-view_other : (l : List Item) (v : View) (by : Action) (column : Option (List ℕ)) (need : Need) → (¬ (IsUpdating by)) → IsViewNeed l v by column need → Contains v.needs need
+pub view_other : (l : List Item) (v : View) (by : Action) (column : Option (List ℕ)) (need : Need) → (¬ (IsUpdating by)) → IsViewNeed l v by column need → Contains v.needs need
 view_other l v action.Select column need other is = is
 view_other l v action.Insert column need other is = absurd (other tt)
 view_other l v action.Update column need other is = absurd (other tt)
@@ -236,6 +237,37 @@ module _ (u part : List Item) (order : IsInOrder part) (within : IsWithin part u
         )
   ]
 
+  held_most : length topics ≤ most_topics (item.Held r) relevant.0 + 6
+  held_most = elim (updating_or_not r.need.action) [
+    | inl by ↦
+        let parts = split (DependsOn part (item.Held r)) (IsFarTopic (item.Held r)) topics (λ t ht. held_depends by t (asked t ht)) in
+        let both = parts.2.once (once topics differ) in
+        omega (
+          arith,
+          parts.2.sums (λ t. 1),
+          ones topics,
+          ones parts.0,
+          ones parts.1,
+          system_topics_most part u (one_view part order) within (item.Held r) relevant.0 parts.0 system relevant.1 (omega (arith, some, relevant.2)) (once_pairs parts.0 both.0) (λ t ht. (parts.2.left t ht).1),
+          most_plain (item.Held r) relevant.0 (system_given (item.Held r) system),
+          no_longer parts.1 (far_topics (item.Held r)) both.1 (λ t ht. far_listed (item.Held r) t (parts.2.right t ht).1),
+          far_few (item.Held r),
+        )
+    | inr by ↦
+        let parts = split (HasParts u) (Contains (plain_topics (item.Held r) r)) topics (λ t ht. held_stands by t (asked t ht)) in
+        let both = parts.2.once (once topics differ) in
+        omega (
+          arith,
+          parts.2.sums (λ t. 1),
+          ones topics,
+          ones parts.0,
+          ones parts.1,
+          asked_most u part relevant.0 within parts.0 (once_pairs parts.0 both.0) (item.Held r) relevant.1 (λ t ht. let p = parts.2.left t ht in (asked t p.0, p.1)),
+          no_longer parts.1 (plain_topics (item.Held r) r) both.1 (λ t ht. (parts.2.right t ht).1),
+          plain_few (item.Held r) r,
+        )
+  ]
+
 -- ---- a right that is with grant option
 
 module _ (u part : List Item) (order : IsInOrder part) (within : IsWithin part u) (stand : NeedsStand u part) (r : Right) (system : r.grantor ≡ System) (n : ℕ) (some : 0 < n) (relevant : HasRelevant u (item.Grantable r) n) (topics : List Topic) (differ : AllPairs (λ s t. s ≢ t) topics)
@@ -296,7 +328,45 @@ module _ (u part : List Item) (order : IsInOrder part) (within : IsWithin part u
         )
   ]
 
+  grantable_most : length topics ≤ most_topics (item.Grantable r) relevant.0 + 6
+  grantable_most = elim (updating_or_not r.need.action) [
+    | inl by ↦
+        let parts = split (DependsOn part (item.Grantable r)) (IsFarTopic (item.Grantable r)) topics (λ t ht. grantable_depends by t (asked t ht)) in
+        let both = parts.2.once (once topics differ) in
+        omega (
+          arith,
+          parts.2.sums (λ t. 1),
+          ones topics,
+          ones parts.0,
+          ones parts.1,
+          system_topics_most part u (one_view part order) within (item.Grantable r) relevant.0 parts.0 system relevant.1 (omega (arith, some, relevant.2)) (once_pairs parts.0 both.0) (λ t ht. (parts.2.left t ht).1),
+          most_plain (item.Grantable r) relevant.0 (system_given (item.Grantable r) system),
+          no_longer parts.1 (far_topics (item.Grantable r)) both.1 (λ t ht. far_listed (item.Grantable r) t (parts.2.right t ht).1),
+          far_few (item.Grantable r),
+        )
+    | inr by ↦
+        let parts = split (HasParts u) (Contains (plain_topics (item.Grantable r) r)) topics (λ t ht. grantable_stands by t (asked t ht)) in
+        let both = parts.2.once (once topics differ) in
+        omega (
+          arith,
+          parts.2.sums (λ t. 1),
+          ones topics,
+          ones parts.0,
+          ones parts.1,
+          asked_most u part relevant.0 within parts.0 (once_pairs parts.0 both.0) (item.Grantable r) relevant.1 (λ t ht. let p = parts.2.left t ht in (asked t p.0, p.1)),
+          no_longer parts.1 (plain_topics (item.Grantable r) r) both.1 (λ t ht. (parts.2.right t ht).1),
+          plain_few (item.Grantable r) r,
+        )
+  ]
+
 pub system_asks_few : (u part : List Item) → IsInOrder part → IsWithin part u → NeedsStand u part → (x : Item) → IsBySystem x → (n : ℕ) → 0 < n → HasRelevant u x n → (topics : List Topic) → AllPairs (λ s t. s ≢ t) topics → ((t : Topic) → Contains topics t → Asks part x t) → length topics ≤ 5 * square n + 3
 system_asks_few u part order within stand (item.Held r) is n some relevant topics differ asks = held_few u part order within stand r is n some relevant topics differ asks
 system_asks_few u part order within stand (item.Grantable r) is n some relevant topics differ asks = grantable_few u part order within stand r is n some relevant topics differ asks
 system_asks_few u part order within stand _ is n some relevant topics differ asks = absurd is
+
+-- and six beside what its parts, schemas and role authorizations tell
+pub system_asks_most : (u part : List Item) → IsInOrder part → IsWithin part u → NeedsStand u part → (x : Item) → IsBySystem x → (xs : List Item) → Lists (λ y. Contains u y × Relevant u y x) xs → 0 < length xs → (topics : List Topic) → AllPairs (λ s t. s ≢ t) topics → ((t : Topic) → Contains topics t → Asks part x t)
+    → length topics ≤ most_topics x xs + 6
+system_asks_most u part order within stand (item.Held r) is xs lists some topics differ asks = held_most u part order within stand r is (length xs) some (xs, lists, refl) topics differ asks
+system_asks_most u part order within stand (item.Grantable r) is xs lists some topics differ asks = grantable_most u part order within stand r is (length xs) some (xs, lists, refl) topics differ asks
+system_asks_most u part order within stand _ is xs lists some topics differ asks = absurd is

@@ -1,3 +1,4 @@
 pub mod Granted
+pub mod Judging
 pub mod Marked
 pub mod Missing

@@ -31,13 +31,14 @@ ghost use Rattle.board_plans.specs.Leaving.{AreOutgoing};
 ghost use Rattle.board_plans.specs.Leaving as leaving;
 ghost use Rattle.board_plans.specs.Planning.{AreArrivals};
 ghost use Rattle.board_changes.specs.Leaving.{look_ups_with};
-ghost use Rattle.edit_suspects.specs.Seeds.{seed_look_ups};
+ghost use Rattle.edit_suspects.specs.Seeds.{AreTouched, seed_look_ups};
 ghost use Rattle.edit_suspects.specs.Suspects.{AreFresh, is_suspect};
 ghost use Rattle.look_up_bound.specs.PossibleRights.{IsBySystem, leads_on};
 ghost use Rattle.look_up_bound.specs.Touched.{IsPaidBy, IsTouched};
 ghost use Rattle.cascade_bound.specs.Granted.{granted_on};
+ghost use Rattle.cascade_bound.specs.Judging.{JudgesWithin};
 ghost use Rattle.cascade_bound.specs.Marked.{AreTouchedOn, GoOut};
-ghost use Rattle.cascade_bound.specs.Missing.{LacksNothing, NeedsStand};
+ghost use Rattle.cascade_bound.specs.Missing.{LacksNothing, MissesNothing, NeedsStand};
 
 /// Of what an edit touches on a board, the items and the rights that the system could grant pay for all: to reach it takes no more than
 /// their links and five look-ups for each (`ticks`), beside two for each added item; three times as many are touched in all (`marks`); to tell
@@ -129,4 +130,29 @@ pub fn what_a_part_has_concerns_its_suspects()
     ensures { (g : Graph Item) (c edited : List Item) (edit : Edit) (marks own : List ℕ) (bound : ℕ) → AreTouchedOn g c edit marks own → IsGood c → IsFit c edit edited → (b : IsBound c edit edited bound) (suspects part asked : List Item)
         → HasAskedAll g marks suspects part asked → ((x : Item) → Contains suspects x → IsSuspect b.u edit x)
         → (y : Item) → Contains part y → Contains b.u y × (IsSuspect b.u edit y ⊎ ((x : Item) × IsSuspect b.u edit x × Relevant b.u y x)) }
+{}
+
+/// To reach what an edit touches takes no more look-ups than its bound, however that is listed.
+pub fn what_is_touched_is_reached_within_the_bound()
+    ensures { (g : Graph Item) (c edited : List Item) (edit : Edit) (bound : ℕ) → IsGood c → IsWhole same.ghosts.eq g → IsFullBoard g c → IsFit c edit edited → IsBound c edit edited bound
+        → (spent : ℕ) → ((marks : List ℕ) → AreTouched same.ghosts.eq g edit marks → spent ≤ seed_look_ups edit + sum_by (look_ups g.dependents) marks) → spent ≤ bound }
+{}
+
+/// Of what an edit touches on the board of its catalogue it can be told which numbers are no topics'.
+pub fn what_is_touched_can_be_told_from_topics()
+    ensures { (g : Graph Item) (c : List Item) (edit : Edit) (marks : List ℕ) → IsWhole same.ghosts.eq g → IsFullBoard g c → HasNoHelper c → IsWithin edit.target c → IsWithin edit.changed c → AreTouched same.ghosts.eq g edit marks
+        → (own : List ℕ) × AreTouchedOn g c edit marks own }
+{}
+
+/// Where nothing is missing, all that it takes to make an edit ready is within its bound: what it touches is found, its keys are read, and its suspects are
+/// judged (`judged`), then the plan is made (`planned`), and what goes out is read with its links (`made`).
+pub fn what_an_edit_takes_is_within_the_bound()
+    ensures judged { (g : Graph Item) (c edited : List Item) (edit : Edit) (marks own : List ℕ) (bound : ℕ) → AreTouchedOn g c edit marks own → IsGood c → IsFit c edit edited → (b : IsBound c edit edited bound) → MissesNothing b.u edited edit
+        → (spent : ℕ) → JudgesWithin g c edit marks spent → seed_look_ups edit + sum_by (look_ups g.dependents) marks + length marks + spent ≤ bound }
+    ensures planned { (g : Graph Item) (c edited f new : List Item) (edit : Edit) (marks own : List ℕ) (fresh : List Item) (arrivals : List Arrival) (bound : ℕ) → AreTouchedOn g c edit marks own → IsGood c → IsFit c edit edited → (b : IsBound c edit edited bound) → MissesNothing b.u edited edit
+        → IsWithSystem edited f → AreFresh c edited fresh → AreSurvivors f new → AreArrivals new (is_suspect g marks edit.added fresh) arrivals → (spent : ℕ) → JudgesWithin g c edit marks spent
+        → seed_look_ups edit + sum_by (look_ups g.dependents) marks + length marks + spent + sum_by (leaving.look_ups g marks) marks + sum_by (λ a. length (links_by a)) arrivals ≤ bound }
+    ensures made { (g : Graph Item) (c edited f new : List Item) (edit : Edit) (marks own out : List ℕ) (fresh : List Item) (arrivals : List Arrival) (bound : ℕ) → AreTouchedOn g c edit marks own → AreOutgoing g marks out → IsGood c → IsFit c edit edited → (b : IsBound c edit edited bound) → MissesNothing b.u edited edit
+        → IsWithSystem edited f → AreFresh c edited fresh → AreSurvivors f new → AreArrivals new (is_suspect g marks edit.added fresh) arrivals → (spent : ℕ) → JudgesWithin g c edit marks spent
+        → seed_look_ups edit + sum_by (look_ups g.dependents) marks + length marks + spent + sum_by (leaving.look_ups g marks) marks + sum_by (λ a. length (links_by a)) arrivals + sum_by (λ n. 1 + look_ups_with g n) out ≤ bound }
 {}

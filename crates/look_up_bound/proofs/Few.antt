@@ -32,7 +32,7 @@ abbrev supplies : List Need → List Auth → List Topic
 supplies needs grantees = flat_map (λ need. map (supply need) grantees) needs
 
 -- the topics that an item may ask for beside names: a role grant asks for role authorizations and admin options, what has needs for rights and role authorizations
-abbrev others : Item → List (List ℕ) → List Need → List Auth → List Topic
+abbrev pub others : Item → List (List ℕ) → List Need → List Auth → List Topic
 others (item.RoleAuth g) names needs grantees = map edges names ++ map (admins g.role) names
 others (item.RoleAdmin g) names needs grantees = map edges names ++ map (admins g.role) names
 others x names needs grantees = supplies needs grantees ++ map edges names
@@ -54,10 +54,10 @@ has_admin (item.RoleAdmin g) names needs grantees role name e h =
     subst (λ r. Contains (others (item.RoleAdmin g) names needs grantees) (admins r name)) e (Contains-append_right (map edges names) (map (admins g.role) names) (admins g.role name) (Contains-map (admins g.role) names name h))
 has_admin _ names needs grantees role name e h = absurd e
 
-abbrev others_of : Item → List Item → List Topic
+abbrev pub others_of : Item → List Item → List Topic
 others_of x xs = others x (names_of x xs) (flat_map needs_on xs) (grantees_of x xs)
 
-abbrev topics_of : Item → List Item → List Topic
+abbrev pub topics_of : Item → List Item → List Topic
 topics_of x xs = flat_map home_topics xs ++ others_of x xs
 
 module _ (u xs : List Item) (x : Item) (there : (y : Item) → Contains u y → Relevant u y x → Contains xs y) where
@@ -98,7 +98,7 @@ module _ (u xs : List Item) (x : Item) (there : (y : Item) → Contains u y → 
 length-supplies : (needs : List Need) (grantees : List Auth) → length (supplies needs grantees) ≡ length needs * length grantees
 length-supplies needs grantees = length-each (λ need. map (supply need) grantees) (length grantees) needs (λ need. length-map grantees (supply need))
 
-of_role : (g : List ℕ) (names : List (List ℕ)) → length (map edges names ++ map (admins g) names) ≡ length names + length names
+pub of_role : (g : List ℕ) (names : List (List ℕ)) → length (map edges names ++ map (admins g) names) ≡ length names + length names
 of_role g names = omega (arith, length-append (map edges names) (map (admins g) names), length-map names edges, length-map names (admins g))
 
 module _ (x : Item) (xs : List Item) where
@@ -116,7 +116,7 @@ module _ (x : Item) (xs : List Item) where
       let all = length-append (supplies (flat_map needs_on xs) (grantees_of x xs)) (map edges (names_of x xs)) in
       omega (arith, all, product leads few, few, length-map (names_of x xs) edges, length-at_most home_topics 2 xs at_most_two)
 
-  names_few : length (names_of x xs) ≤ count_by leads_on xs + 1
+  pub names_few : length (names_of x xs) ≤ count_by leads_on xs + 1
   names_few = omega (arith, length-names_of x xs, length-reached_name xs)
 
   within_square : length (supplies (flat_map needs_on xs) (grantees_of x xs) ++ map edges (names_of x xs)) + length (flat_map home_topics xs) + 3 ≤ 5 * square (length xs)

@@ -12,6 +12,7 @@ pub mod Reached
 pub mod Paying
 pub mod RightTopics
 pub mod RightsOn
+pub mod Sharp
 pub mod Squares
 pub mod Standing
 pub mod Survivor

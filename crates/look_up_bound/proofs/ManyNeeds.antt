@@ -16,7 +16,7 @@ use Rattle.cat_items.specs.declared.item.View.{View}
 use Rattle.cat_items.specs.declared.item.Right.{Right}
 use Rattle.cat_items.specs.declared.item.Item.{Item}
 use Rattle.cat_items.specs.declared.item.Item.TheVariants as item
-use Rattle.cat_items.specs.Bound.{HasRelevant, square}
+use Rattle.cat_items.specs.Bound.{HasRelevant, Lists, square}
 use Rattle.cat_items.specs.Reach.{Has}
 use Rattle.cat_items.specs.Rights.{path_of, IsObject}
 use Rattle.cat_items.specs.Relevant.{Relevant, IsActor, IsOwnedSchema, OwnsPath, ActsInRight, IsBaseNeed, IsNeedOnColumn, IsBaseColumnNeed, RightNames, named}
@@ -29,7 +29,7 @@ use Rattle.look_up_bound.proofs.Counting.{IsOnce, once, no_longer, at_head, leng
 use Rattle.look_up_bound.proofs.Parts.{need_of, reached_name, is_part, length-reached_name, all_apart, at_least_one, one_if, count-cons}
 use Rattle.look_up_bound.proofs.Reached.{auth_name, grantor_name, names_of, grantees_of, name_there, grantee_there, owner_of_path_is_named}
 use Rattle.look_up_bound.proofs.RightTopics.{need_topics, two_topics, need_listed, plain_topics, RightDepends, on_need, on_held, by_need, by_supply, by_edges, right_depends, find_need}
-use Rattle.look_up_bound.proofs.Squares.{many_within}
+use Rattle.look_up_bound.proofs.Squares.{many_most, many_within, most_by}
 
 -- ---- the needs that a right to change a view goes by, of the columns that are relevant
 
@@ -196,6 +196,26 @@ module _ (c u : List Item) (one_view : (v w : View) → Contains c (item.View v)
         many_within (length topics) (length needs) (length (grantees_of x xs)) (length (names_of x xs)) (count_by is_part xs) (count_by leads_on xs) (length xs)
         (omega (arith, all, length-many_topics r needs (names_of x xs) (grantees_of x xs))) few (omega (arith, length-map (names_of x xs) Named)) named some (omega (arith, all_apart xs))
 
+    of_view_most : (n : Need) → IsUpdateNeed c v r.need.action r.need.column n → (topics : List Topic) → IsOnce topics → ((t : Topic) → Contains topics t → RightDepends c r t) → length topics ≤ most_by (length xs) (count_by is_part xs) (count_by leads_on xs)
+    of_view_most n is topics o each =
+        let some = view_counted n is in
+        let all = no_longer topics (many_topics r needs (names_of x xs) (grantees_of x xs)) o (λ t h. among_many t (each t h)) in
+        let named : length (names_of x xs) ≤ count_by leads_on xs = omega (arith, length-append (grantor_name x) (flat_map reached_name xs), no_grantor, length-reached_name xs) in
+        let few = length-update_needs v r.need.action r.need.column xs some in
+        many_most (length topics) (length needs) (length (grantees_of x xs)) (length (names_of x xs)) (count_by is_part xs) (count_by leads_on xs) (length xs)
+        (omega (arith, all, length-many_topics r needs (names_of x xs) (grantees_of x xs))) few (omega (arith, length-map (names_of x xs) Named)) named some (omega (arith, all_apart xs))
+
+  many_topics_most : (topics : List Topic) → IsOnce topics → ((t : Topic) → Contains topics t → RightDepends c r t) → 0 < length xs → length topics ≤ most_by (length xs) (count_by is_part xs) (count_by leads_on xs) + 1
+  many_topics_most topics o each some =
+      elim (find_need c r topics each) [
+        | inl plain ↦ (let short = no_longer topics (plain_topics r) o plain in omega (arith, short, two_topics r.need, some))
+        | inr found ↦ (let most = at found.0 found.1.0 found.1.1 found.1.2 in omega (arith, most))
+      ]
+    where
+      at : (n : Need) (y : Item) → Contains c y → IsUpdateNeedOn c r n y → length topics ≤ most_by (length xs) (count_by is_part xs) (count_by leads_on xs)
+      at n (item.View v) inside is = of_view_most v inside is.0 n is.1 topics o each
+      at n _ inside is = absurd is
+
   many_topics_few : (topics : List Topic) → IsOnce topics → ((t : Topic) → Contains topics t → RightDepends c r t) → 0 < length xs → length topics + 3 ≤ 5 * square (length xs)
   many_topics_few topics o each some =
       elim (find_need c r topics each) [
@@ -219,3 +239,11 @@ system_topics_few c u one_view within x n topics by_system h some differ depends
     let there : (y : Item) → Contains u y → Relevant u y x → Contains h.0 y = λ y inside is. (h.1.members y).1 (inside, is) in
     subst (λ m. length topics + 3 ≤ 5 * square m) h.2
     (many_topics_few c u one_view within of.0 of.1 x of.2 h.0 there topics (once topics differ) (λ t is. right_depends c of.0 of.1 t x of.2 (depends t is)) (omega (arith, some, h.2)))
+
+-- and at most one more than what the parts, schemas and role authorizations tell
+pub system_topics_most : (c u : List Item) → ((v w : View) → Contains c (item.View v) → Contains c (item.View w) → path_of v.view ≡ path_of w.view → v ≡ w) → IsWithin c u → (x : Item) (xs : List Item) (topics : List Topic) → IsBySystem x → Lists (λ y. Contains u y × Relevant u y x) xs → 0 < length xs
+    → AllPairs (λ s t. s ≢ t) topics → ((t : Topic) → Contains topics t → DependsOn c x t) → length topics ≤ most_by (length xs) (count_by is_part xs) (count_by leads_on xs) + 1
+system_topics_most c u one_view within x xs topics by_system lists some differ depends =
+    let of = right_of_item x by_system in
+    let there : (y : Item) → Contains u y → Relevant u y x → Contains xs y = λ y inside is. (lists.members y).1 (inside, is) in
+    many_topics_most c u one_view within of.0 of.1 x of.2 xs there topics (once topics differ) (λ t is. right_depends c of.0 of.1 t x of.2 (depends t is)) some

@@ -132,3 +132,61 @@ module _ (c u part : List Item) (good : IsGood c) (within : IsWithin c u) (part_
           let authorization = counted c u good within (item.Routine z) xs lists is_authorization owner.0 owner.1 (acting (Named s.owner) acts owner.2) (authorization_counts s.owner owner.0 owner.2) in
           routine_pays (length xs) (count_by is_part xs) (count_by leads_on xs) (length topics) asked before after rights few one b f r lead (omega (arith, all_apart xs, authorization))
       by _ inside is = absurd is
+
+-- ---- what is relevant to each of them: parts of needs, schemas and role authorizations, and others
+
+module _ (c u : List Item) (good : IsGood c) (within : IsWithin c u) (xs : List Item) where
+  abbrev parts : ℕ
+  parts = count_by is_part xs
+
+  abbrev leads : ℕ
+  leads = count_by leads_on xs
+
+  pub view_counts : (v : View) → Contains c (item.View v) → (need : Need) → Contains v.needs need → Lists (λ y. Contains u y × Relevant u y (item.View v)) xs → (1 ≤ parts) × (1 ≤ leads) × (parts + leads + 2 ≤ length xs)
+  view_counts v h need needed lists = by meets.0 meets.1 meets.2
+    where
+      meets : Has c (MeetsAll false c v.view.schema v.needs)
+      meets = survivor_supported good.all c good.survivors (item.View v) h
+
+      by : (z : Item) → Contains c z → MeetsAll false c v.view.schema v.needs z → (1 ≤ parts) × (1 ≤ leads) × (parts + leads + 2 ≤ length xs)
+      by (item.Schema z) inside is =
+          let acts : IsActor u (item.View v) (Named z.owner) = (item.Schema z, within (item.Schema z) inside, (is.0, refl)) in
+          let lead = counted c u good within (item.View v) xs lists leads_on (item.Schema z) inside (named (is.0)) refl in
+          let owner = survivor_supported good.all c good.survivors (item.Schema z) inside in
+          let authorization = counted c u good within (item.View v) xs lists is_authorization owner.0 owner.1 (acting (Named z.owner) acts owner.2) (authorization_counts z.owner owner.0 owner.2) in
+          let met = All-contains (Met false c (Named z.owner)) v.needs need is.1 needed in
+          let both = need_counted c u good within (item.View v) xs lists (Named z.owner) need (tree_needs_ordinary (item.View v) (good.shape.derived (item.View v) h) need needed) needed acts met in
+          (both.0, lead, omega (arith, all_apart xs, authorization, both.1))
+      by _ inside is = absurd is
+
+  pub column_counts : (k : Column) → Contains c (item.Column k) → Lists (λ y. Contains u y × Relevant u y (item.Column k)) xs → (1 ≤ parts) × (1 ≤ leads) × (parts + leads + 1 ≤ length xs)
+  column_counts k h lists = by is_there.0.0 is_there.0.1 is_there.0.2
+    where
+      is_there : Supported good.all c (item.Column k)
+      is_there = survivor_supported good.all c good.survivors (item.Column k) h
+
+      by : (z : Item) → Contains c z → IsSchema k.table.schema z → (1 ≤ parts) × (1 ≤ leads) × (parts + leads + 1 ≤ length xs)
+      by (item.Schema z) inside is =
+          let acts : IsActor u (item.Column k) (Named z.owner) = (item.Schema z, within (item.Schema z) inside, (is, refl)) in
+          let lead = counted c u good within (item.Column k) xs lists leads_on (item.Schema z) inside (named (inl is)) refl in
+          let owner = survivor_supported good.all c good.survivors (item.Schema z) inside in
+          let authorization = counted c u good within (item.Column k) xs lists is_authorization owner.0 owner.1 (acting (Named z.owner) acts owner.2) (authorization_counts z.owner owner.0 owner.2) in
+          let table = is_there.1 in
+          let object = counted c u good within (item.Column k) xs lists is_part table.0 table.1 (named (inr (inl table.2))) (table_is_part (path_of k.table) table.0 table.2) in
+          (object, lead, omega (arith, all_apart xs, authorization))
+      by _ inside is = absurd is
+
+  pub routine_counts : (z : Routine) → Contains c (item.Routine z) → Lists (λ y. Contains u y × Relevant u y (item.Routine z)) xs → (1 ≤ leads) × (parts + leads + 1 ≤ length xs)
+  routine_counts z h lists = by schema.0 schema.1 schema.2
+    where
+      schema : Has c (IsSchema z.routine.schema)
+      schema = depended_good c c good (λ y inside. inside) (item.Routine z) (on.schema z.routine.schema) h (on.by_name refl)
+
+      by : (y : Item) → Contains c y → IsSchema z.routine.schema y → (1 ≤ leads) × (parts + leads + 1 ≤ length xs)
+      by (item.Schema s) inside is =
+          let acts : IsActor u (item.Routine z) (Named s.owner) = (item.Schema s, within (item.Schema s) inside, (is, refl)) in
+          let lead = counted c u good within (item.Routine z) xs lists leads_on (item.Schema s) inside (named is) refl in
+          let owner = survivor_supported good.all c good.survivors (item.Schema s) inside in
+          let authorization = counted c u good within (item.Routine z) xs lists is_authorization owner.0 owner.1 (acting (Named s.owner) acts owner.2) (authorization_counts s.owner owner.0 owner.2) in
+          (lead, omega (arith, all_apart xs, authorization))
+      by _ inside is = absurd is

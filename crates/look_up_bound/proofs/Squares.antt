@@ -41,6 +41,22 @@ table_within topics needs grantees names a g n all few reached named low =
     let wide : grantees ≤ g + 1 = omega (arith, reached, named) in
     omega (arith, whole, all, mul-le-mul_left needs wide, mul-le-mul_right (g + 1) few, few, named)
 
+-- ---- the same against what parts of needs, and schemas and role authorizations, tell
+
+-- two topics an item, for each of the parts and actions of needs the authorizations that are reached, and the role authorizations to these
+abbrev pub most_by : (n a g : ℕ) → ℕ
+most_by n a g = 2 * n + (7 * a * (g + 1) + g)
+
+pub many_most : (topics needs grantees names a g n : ℕ) → topics ≤ 3 + needs * 2 + needs * grantees + names → needs ≤ a → grantees ≤ names + 1 → names ≤ g → 1 ≤ a → a + g ≤ n → topics ≤ most_by n a g
+many_most topics needs grantees names a g n all few reached named some low =
+    let wide : grantees ≤ g + 1 = omega (arith, reached, named) in
+    omega (arith, all, mul-le-mul_left needs wide, mul-le-mul_right (g + 1) few, few, named, some, low)
+
+pub table_most : (topics needs grantees names a g n : ℕ) → topics ≤ 2 + needs * 2 + needs * grantees + names → needs ≤ a → grantees ≤ names + 1 → names ≤ g → a + g ≤ n → topics ≤ most_by n a g + 2
+table_most topics needs grantees names a g n all few reached named low =
+    let wide : grantees ≤ g + 1 = omega (arith, reached, named) in
+    omega (arith, all, mul-le-mul_left needs wide, mul-le-mul_right (g + 1) few, few, named, low)
+
 -- the look-ups of one suspect
 pub one_within : (n asked before after rights : ℕ) → asked + 2 ≤ 5 * ((1 + n) * (1 + n)) → before ≤ asked → after ≤ asked → rights ≤ 20 → (n ≡ 0 → rights ≡ 0) → look_ups n asked before after rights ≤ 64 * ((1 + n) * (1 + n))
 one_within zero asked before after rights few b a r none = omega (arith, few, b, a, none)

@@ -12,7 +12,7 @@ use Rattle.cat_items.specs.declared.need.Auth.TheVariants.{Named}
 use Rattle.cat_items.specs.declared.need.Need.{Need}
 use Rattle.cat_items.specs.declared.item.Item.{Item}
 use Rattle.cat_items.specs.declared.item.Item.TheVariants as item
-use Rattle.cat_items.specs.Bound.{HasRelevant, square}
+use Rattle.cat_items.specs.Bound.{HasRelevant, Lists, square}
 use Rattle.cat_items.specs.Reach.{Has}
 use Rattle.cat_items.specs.Rights.{usage}
 use Rattle.cat_items.specs.Relevant.{Relevant, IsActor, IsUsageOf, HasUsage, named}
@@ -26,7 +26,7 @@ use Rattle.look_up_bound.proofs.MoreAsked.{asks_more}
 use Rattle.look_up_bound.proofs.Parts.{reached_name, is_part, length-reached_name, all_apart, one_if, count-cons}
 use Rattle.look_up_bound.proofs.Reached.{names_of, grantees_of, name_there, grantee_there, system_needs_nothing}
 use Rattle.look_up_bound.proofs.RightTopics.{need_topics, two_topics, need_listed}
-use Rattle.look_up_bound.proofs.Squares.{table_within}
+use Rattle.look_up_bound.proofs.Squares.{most_by, table_most, table_within}
 
 abbrev domain_needs : Option Object → List Need
 domain_needs None = []
@@ -120,3 +120,13 @@ table_asks_few u c o n topics within h differ asked =
     subst (λ m. length topics + 3 ≤ 5 * square m) h.2
     (table_within (length topics) (length (flat_map usage_needs xs)) (length (grantees_of (item.Table o) xs)) (length (names_of (item.Table o) xs)) (count_by is_part xs) (count_by leads_on xs) (length xs)
     (omega (arith, all, length-table_topics o (flat_map usage_needs xs) (names_of (item.Table o) xs) (grantees_of (item.Table o) xs))) (length-usage_needs xs) (omega (arith, length-map (names_of (item.Table o) xs) Named)) named (omega (arith, all_apart xs)))
+
+-- and two more at most than its parts, schemas and role authorizations tell
+pub table_asks_most : (u c : List Item) (o : Object) (xs : List Item) (topics : List Topic) → IsWithin c u → Lists (λ y. Contains u y × Relevant u y (item.Table o)) xs → AllPairs (λ s t. s ≢ t) topics → ((t : Topic) → Contains topics t → Asks c (item.Table o) t)
+    → length topics ≤ most_by (length xs) (count_by is_part xs) (count_by leads_on xs) + 2
+table_asks_most u c o xs topics within lists differ asked =
+    let there : (y : Item) → Contains u y → Relevant u y (item.Table o) → Contains xs y = λ y inside is. (lists.members y).1 (inside, is) in
+    let all = no_longer topics (table_topics o (flat_map usage_needs xs) (names_of (item.Table o) xs) (grantees_of (item.Table o) xs)) (once topics differ) (λ t is. listed u o xs there t (asks_more c u within (item.Table o) t (asked t is))) in
+    let named : length (names_of (item.Table o) xs) ≤ count_by leads_on xs = omega (arith, length-append [] (flat_map reached_name xs), length-reached_name xs) in
+    table_most (length topics) (length (flat_map usage_needs xs)) (length (grantees_of (item.Table o) xs)) (length (names_of (item.Table o) xs)) (count_by is_part xs) (count_by leads_on xs) (length xs)
+    (omega (arith, all, length-table_topics o (flat_map usage_needs xs) (names_of (item.Table o) xs) (grantees_of (item.Table o) xs))) (length-usage_needs xs) (omega (arith, length-map (names_of (item.Table o) xs) Named)) named (omega (arith, all_apart xs))
