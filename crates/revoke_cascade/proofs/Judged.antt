@@ -154,7 +154,7 @@ module _ (g : Graph Item) (c edited f : List Item) (edit : Edit) (marks : List â
       ],
     )
 
-    survive : AreSurvivors f new
+    pub survive : AreSurvivors f new
     survive =
         let lists = one_edited c edit is.edited edited is.is_edited judged.known.on.fit.is_edited in
         let all = one_with_system edited is.all f (subst (Î» l. IsWithSystem l is.all) lists is.with_system) judged.known.on.with_system in

@@ -5,3 +5,4 @@ pub mod Making
 pub mod Effecting
 pub mod Openings
 pub mod Boarding
+pub mod Spending

@@ -6,6 +6,7 @@ use Rattle.item_index.specs.Graphs.{Graph, IsWhole}
 use Rattle.cat_items.specs.declared.edit.Edit.{Edit}
 use Rattle.cat_items.specs.declared.item.Item.{Item}
 use Rattle.cat_items.specs.contracts.item.ItemPartialEq.TheImpl as same
+use Rattle.cat_items.specs.Bound.{IsBound}
 use Rattle.cat_items.specs.Edits.{IsNew}
 use Rattle.cat_items.specs.Fit.{IsFit}
 use Rattle.cat_items.specs.Good.{IsGood}
@@ -19,6 +20,7 @@ use Rattle.asked_parts.specs.Parts.{IsPartOf}
 use Rattle.part_rescue.specs.Rescued.{AreRescued}
 use Rattle.board_plans.specs.declared.plan.Plan.{Plan}
 use Rattle.board_changes.specs.Readiness.{IsPlanned}
+use Rattle.cascade_bound.specs.Missing.{MissesNothing}
 
 -- The board is that of a good catalogue that the edit fits, and f is what the edit makes of it, with the rights that the system could grant.
 pub record IsEditOn (g : Graph Item) (c edited f : List Item) (edit : Edit) : Type 0 where
@@ -77,3 +79,7 @@ pub record IsOutcome (g : Graph Item) (c : List Item) (edit : Edit) (new : List 
   pub made : IsNew c edit new
   pub planned : (suspect : Item → Bool) × IsPlanned same.ghosts.eq g c new suspect plan
   pub tells : Tells c edit suspects found new
+
+-- this is the bound of the edit, and nothing is missing
+abbrev pub IsMeasured : List Item → List Item → Edit → ℕ → Type 0
+IsMeasured c edited edit bound = (b : IsBound c edit edited bound) × MissesNothing b.u edited edit

@@ -1,6 +1,6 @@
 //! Boards: the graphs of catalogues.
 
-ghost use Rattle.std.specs.Prelude.{◌≡◌, ℕ, Bool, IfOk, List, OnOk};
+ghost use Rattle.std.specs.Prelude.{◌≡◌, ◌+◌, ◌≤◌, ℕ, Bool, IfOk, List, OnOk};
 ghost use Rattle.item_index.specs.Graphs.{AreLinks, Graph, no_graph, with_spare};
 ghost use Rattle.item_index.specs.Undo.{IsAsBefore};
 ghost use Rattle.cat_items.specs.contracts.item.ItemPartialEq.TheImpl as same;
@@ -12,7 +12,7 @@ ghost use Rattle.board_graph.specs.Boards.{Holds};
 ghost use Rattle.board_changes.specs.Readiness.{IsPlanned, IsReady, TakesBack};
 ghost use Rattle.board_steps.specs.Plans.{IsFullBoard};
 ghost use Rattle.revoke_cascade.specs.Boards.{IsBoardOf, IsTaken, adds};
-ghost use Rattle.revoke_cascade.specs.Prepared.{IsOutcome};
+ghost use Rattle.revoke_cascade.specs.Prepared.{IsMeasured, IsOutcome};
 
 use crate::cascade::Taken;
 use crate::preparing::{Prepared, prepare_on};
@@ -108,6 +108,7 @@ impl Board {
         ensures board { self.new ≡ with_spare self.old self.new.spare_keys self.new.spare_links }
         ensures ready { IfOk result (λ prepared. IsReady same.ghosts.eq self.new prepared.ready) }
         ensures outcome { IfOk result (λ prepared. (c edited : List Item) → IsGood c → Holds self.old c → IsFit c edit.now edited → (new : List Item) × IsOutcome self.new c edit.now new prepared.ready.plan prepared.suspects.items prepared.found.items) }
+        ensures few { (c edited : List Item) (bound : ℕ) → IsGood c → Holds self.old c → IsFit c edit.now edited → IsMeasured c edited edit.now bound → steps.new ≤ steps.old + bound }
     {
         self.index.keeps_whole();
         prepare_on(alloc, &mut self.index, edit, steps)

@@ -1,12 +1,14 @@
 //! Cascades: edits that are ready on the board of their catalogue.
 
-ghost use Rattle.std.specs.Prelude.{◌≡◌, ◌≤◌, IfOk, List, vec_len};
+ghost use Rattle.std.specs.Prelude.{◌≡◌, ◌+◌, ◌≤◌, ℕ, IfOk, List, vec_len};
 ghost use Rattle.item_index.specs.Graphs.{with_spare};
 ghost use Rattle.cat_items.specs.declared.edit.Edit.{Edit};
 ghost use Rattle.cat_items.specs.declared.item.Item.{Item};
+ghost use Rattle.cat_items.specs.Bound.{IsBound};
 ghost use Rattle.cat_items.specs.Fit.{IsFit};
 ghost use Rattle.cat_items.specs.Good.{IsGood};
 ghost use Rattle.board_graph.specs.Boards.{Holds};
+ghost use Rattle.cascade_bound.specs.Missing.{MissesNothing};
 ghost use Rattle.revoke_cascade.specs.Boards.{IsCascade, IsTaken};
 
 use crate::board::Board;
@@ -34,7 +36,8 @@ pub struct Taken {
 
 impl Cascade {
     /// Finds what an edit does to a catalogue, and takes all memory that it takes to carry it out on its board, and to take it back. The
-    /// board stays as it is, but for more room. `Err` is want of memory.
+    /// board stays as it is, but for more room. Where nothing is missing that the added items ask for, and each view keeps its schema, it takes no
+    /// more look-ups than the bound of the edit. `Err` is want of memory.
     pub fn prepare<L: Ledger>(
         alloc: Global,
         board: &mut Board,
@@ -48,6 +51,7 @@ impl Cascade {
         ensures board { board.new ≡ with_spare board.old board.new.spare_keys board.new.spare_links }
         ensures held { Holds board.new c.now.items }
         ensures cascade { IfOk result (λ cascade. (new : List Item) × IsCascade board.new c.now.items edit.now new cascade) }
+        ensures few { (edited : List Item) (bound : ℕ) (b : IsBound c.now.items edit.now edited bound) → IsFit c.now.items edit.now edited → MissesNothing b.u edited edit.now → steps.new ≤ steps.old + bound }
     {
         let prepared = board.prepare(alloc, edit, steps)?;
         let effects = effects_of(alloc, c, edit, &prepared.suspects, &prepared.found)?;

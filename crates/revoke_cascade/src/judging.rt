@@ -1,9 +1,15 @@
 //! The suspects of an edit, and what of them stands.
 
-ghost use Rattle.std.specs.Prelude.{List, IfOk};
+ghost use Rattle.std.specs.Prelude.{◌+◌, ◌*◌, ◌≤◌, List, IfOk, length};
+ghost use Rattle.std.specs.List.{Contains, sum_by};
 ghost use Rattle.finite_chains.specs.Chains.{IsWithin};
 ghost use Rattle.cat_items.specs.contracts.item.ItemPartialEq.TheImpl as same;
 ghost use Rattle.cat_items.specs.declared.item.Item.{Item};
+ghost use Rattle.cat_items.specs.Survivors.{IsSystemRight};
+ghost use Rattle.board_steps.specs.Plans.{HasNoHelper, IsFullBoard};
+ghost use Rattle.asked_parts.specs.Parts.{HasAsked, IsPartOf};
+ghost use Rattle.asked_parts.specs.Under.{look_ups};
+ghost use Rattle.edit_parts.specs.Parts.{HasAllTouched};
 ghost use Rattle.edit_suspects.specs.Seeds.{AreTouched, HaveSpread};
 ghost use Rattle.edit_suspects.specs.Suspects.{AreFresh};
 ghost use Rattle.revoke_cascade.specs.Prepared.{IsEditOn, IsFoundIn, IsJudgement, FitsSome};
@@ -34,8 +40,8 @@ pub(crate) struct Judged {
     pub found: Catalogue,
 }
 
-/// The suspects of an edit that touches these numbers, and what stands of them and of what they ask for. `Err` is want of
-/// memory.
+/// The suspects of an edit that touches these numbers, and what stands of them and of what they ask for. It looks up what `suspects_of` does.
+/// `Err` is want of memory.
 pub(crate) fn judge<L: Ledger>(
     alloc: Global,
     board: &Index<Item>,
@@ -46,8 +52,10 @@ pub(crate) fn judge<L: Ledger>(
     requires fits { FitsSome board.now edit.now }
     requires touched { AreTouched same.ghosts.eq board.now edit.now marks.now.keys }
     requires spread { HaveSpread board.now edit.now marks.now.keys }
-    ensures { IfOk result (λ judged. (c edited f fresh : List Item) → IsEditOn board.now c edited f edit.now → AreFresh c edited fresh
+    ensures judged { IfOk result (λ judged. (c edited f fresh : List Item) → IsEditOn board.now c edited f edit.now → AreFresh c edited fresh
         → IsJudgement board.now c edited f edit.now marks.now.keys fresh judged.suspects.items judged.found.items) }
+    ensures ticks { (c all part keys rights : List Item) → HasNoHelper c → IsFullBoard board.now c → HasAllTouched board.now marks.now.keys edit.now part all → IsPartOf board.now c marks.now.keys all part → HasAsked part all keys
+        → ((x : Item) → IsSystemRight part x → Contains rights x) → steps.new ≤ steps.old + (length marks.now.keys + (length all + (sum_by (look_ups board.now) keys + 2 * length rights))) }
 {
     let Suspected { suspects, part } = suspects_of(alloc, board, marks, edit, steps)?;
     let found = found_in(alloc, &part, &suspects)?;

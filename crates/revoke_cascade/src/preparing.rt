@@ -1,13 +1,14 @@
 //! An edit is made ready: what it touches, what stands, and the plan for its board.
 
-ghost use Rattle.std.specs.Prelude.{◌≡◌, List, IfOk, length};
-ghost use Rattle.std.specs.List.{All};
+ghost use Rattle.std.specs.Prelude.{◌≡◌, ◌+◌, ◌≤◌, ℕ, List, IfOk, length};
+ghost use Rattle.std.specs.List.{All, sum_by};
 ghost use Rattle.item_index.specs.Graphs.{with_spare};
 ghost use Rattle.graph_changes.specs.Ends.{ArePlaced};
 ghost use Rattle.cat_items.specs.contracts.item.ItemPartialEq.TheImpl as same;
 ghost use Rattle.cat_items.specs.declared.item.Item.{Item};
+ghost use Rattle.board_changes.specs.Leaving.{look_ups_with};
 ghost use Rattle.board_changes.specs.Readiness.{IsReady};
-ghost use Rattle.revoke_cascade.specs.Prepared.{FitsSome, IsFitOn, IsOutcome};
+ghost use Rattle.revoke_cascade.specs.Prepared.{FitsSome, IsFitOn, IsMeasured, IsOutcome};
 
 use crate::judging::{Judged, judge};
 use board_changes::{Ready, make_ready};
@@ -27,7 +28,8 @@ struct Planned {
     pub suspects: Catalogue,
 }
 
-/// Finds what the edit touches, judges it, and makes the plan for the board.
+/// Finds what the edit touches, judges it, and makes the plan for the board. Where nothing is missing that takes no more look-ups than the bound of
+/// the edit (`few`), and what is left of these is enough to read what goes out (`spent`).
 fn make_plan<L: Ledger>(
     alloc: Global,
     board: &Index<Item>,
@@ -37,6 +39,8 @@ fn make_plan<L: Ledger>(
     requires { FitsSome board.now edit.now }
     ensures outcome { IfOk result (λ planned. (c edited : List Item) → IsFitOn board.now c edited edit.now → (new : List Item) × IsOutcome board.now c edit.now new planned.plan planned.suspects.items planned.found.items) }
     ensures placed { IfOk result (λ planned. All (ArePlaced (length planned.plan.keys.items)) planned.plan.links.items) }
+    ensures spent { IfOk result (λ planned. (c edited : List Item) (bound : ℕ) → IsFitOn board.now c edited edit.now → IsMeasured c edited edit.now bound → steps.new + sum_by (λ n. 1 + look_ups_with board.now n) planned.plan.out.items ≤ steps.old + bound) }
+    ensures few { (c edited : List Item) (bound : ℕ) → IsFitOn board.now c edited edit.now → IsMeasured c edited edit.now bound → steps.new ≤ steps.old + bound }
 {
     let marks = touched(alloc, board, edit, steps)?;
     let Judged { suspects, found } = judge(alloc, board, &marks, edit, steps)?;
@@ -60,7 +64,7 @@ pub(crate) struct Prepared {
 }
 
 /// Makes an edit ready on the board of its catalogue, with all memory that it takes to carry it out and to take it back. The board stays as it
-/// is, but for more room. `Err` is want of memory.
+/// is, but for more room. Where nothing is missing it takes no more look-ups than the bound of the edit. `Err` is want of memory.
 pub(crate) fn prepare_on<L: Ledger>(
     alloc: Global,
     board: &mut Index<Item>,
@@ -71,6 +75,7 @@ pub(crate) fn prepare_on<L: Ledger>(
     ensures board { board.new ≡ with_spare board.old board.new.spare_keys board.new.spare_links }
     ensures ready { IfOk result (λ prepared. IsReady same.ghosts.eq board.new prepared.ready) }
     ensures outcome { IfOk result (λ prepared. (c edited : List Item) → IsFitOn board.old c edited edit.now → (new : List Item) × IsOutcome board.new c edit.now new prepared.ready.plan prepared.suspects.items prepared.found.items) }
+    ensures few { (c edited : List Item) (bound : ℕ) → IsFitOn board.old c edited edit.now → IsMeasured c edited edit.now bound → steps.new ≤ steps.old + bound }
 {
     let Planned {
         plan,

@@ -1,3 +1,4 @@
+use Rattle.std.proofs.Common.{arith}
 use Rattle.revoke_cascade.proofs.preparing.prepare_on.Goals as goal
 
 pub make_ready-requires-clause-planned : goal.make_ready-requires-clause-planned
@@ -11,3 +12,9 @@ returns-clause-outcome g c = λ old edited fits.
     let to = c.in_ok-plan.ensures.outcome old edited fits in
     let planned = to.1.planned in
     (to.0, record { made = to.1.made; planned = (planned.0, c.in_ok-ready.ensures.planned old to.0 planned.0 planned.1); tells = to.1.tells })
+
+pub returns-in_err-ready-clause-few : goal.returns-in_err-ready-clause-few
+returns-in_err-ready-clause-few g c = λ old edited bound fits measured. omega (arith, c.in_ok-plan.ensures.spent old edited bound fits measured, c.make_ready.ensures.few)
+
+pub returns-clause-few : goal.returns-clause-few
+returns-clause-few g c = λ old edited bound fits measured. omega (arith, c.in_ok-plan.ensures.spent old edited bound fits measured, c.make_ready.ensures.few)

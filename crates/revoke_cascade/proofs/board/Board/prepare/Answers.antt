@@ -15,3 +15,6 @@ pub returns-clause-outcome : goal.returns-clause-outcome
 returns-clause-outcome g c =
     if_ok c.prepare_on.result (λ prepared was. λ old edited good held fit. was old edited
     (fits_on c.self.inside.index c.self.invariant.0 old edited c.args.edit.now c.keeps_whole.ensures c.self.invariant.1 good (rw c.self.view_is held) fit)) c.prepare_on.ensures.outcome
+
+pub returns-clause-few : goal.returns-clause-few
+returns-clause-few g c = λ old edited bound good held fit measured. c.prepare_on.ensures.few old edited bound (fits_on c.self.inside.index c.self.invariant.0 old edited c.args.edit.now c.keeps_whole.ensures c.self.invariant.1 good (rw c.self.view_is held) fit) measured

@@ -35,3 +35,12 @@ returns-in_err-effects-clause-held g c = subst (λ h. Holds h c.args.c.now.items
 
 pub returns-clause-held : goal.returns-clause-held
 returns-clause-held g c = subst (λ h. Holds h c.args.c.now.items) (sym c.prepare.ensures.board) c.requires.held
+
+pub returns-in_err-prepared-clause-few : goal.returns-in_err-prepared-clause-few
+returns-in_err-prepared-clause-few g c = λ edited bound b fit misses. c.prepare.ensures.few c.args.c.now.items edited bound c.requires.good c.requires.held fit (b, misses)
+
+pub returns-in_err-effects-clause-few : goal.returns-in_err-effects-clause-few
+returns-in_err-effects-clause-few g c = λ edited bound b fit misses. c.prepare.ensures.few c.args.c.now.items edited bound c.requires.good c.requires.held fit (b, misses)
+
+pub returns-clause-few : goal.returns-clause-few
+returns-clause-few g c = λ edited bound b fit misses. c.prepare.ensures.few c.args.c.now.items edited bound c.requires.good c.requires.held fit (b, misses)
