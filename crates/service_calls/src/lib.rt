@@ -1,4 +1,4 @@
-//! Tests of the calls that answer statements: books of small limits, and inputs and outputs that fail.
+//! Tests of the calls that answer statements: shared books and servers, and inputs and outputs that fail.
 #![tactic(auto)]
 
 #[cfg(test)]

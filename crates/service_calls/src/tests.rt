@@ -4,13 +4,9 @@ ghost use Rattle.std.specs.Prelude.{◌≡◌, [], IfOk};
 
 use cat_engine::Book;
 use cat_items::Limits;
-use ddl_service::{Status, top, write_reply};
-use item_index::Steps;
+use ddl_service::{Status, top};
 use sql_tree::Name;
 use std::alloc::{AllocError, Global};
-use std::marker::Brand;
-use std::process::Abort;
-use std::sync::ledger::{Blank, Ledger};
 use std::test::Fail;
 use svc_io::{MemListener, MemSink, MemSource};
 
@@ -21,72 +17,6 @@ fn book(alloc: Global, limits: Limits) -> Result<Book, Fail>
     let mut users = Vec::new(alloc);
     users.push(alice)?;
     Ok(Book::new(alloc, &users, limits)?)
-}
-
-/// What a book of the user ALICE and these limits answers to session 7.
-fn replies_of<L: Ledger>(
-    alloc: Global,
-    steps: &mut Steps<L>,
-    limits: Limits,
-    script: &str,
-) -> Result<MemSink, Fail> {
-    let mut book = book(alloc, limits)?;
-    let mut sink = MemSink::new(alloc, 100, 1000, Vec::new(alloc))?;
-    for text in script.lines() {
-        if text.len() <= 65_535 {
-            let reply = book.apply(7, text.as_bytes(), steps);
-            write_reply(&mut sink, &reply).or(Err("no room"))?;
-        }
-    }
-    Ok(sink)
-}
-
-/// Statements of 27, 15 and 15 bytes, each of which takes 64 bytes more in a journal.
-const SCHEMAS: &str = "CONNECT TO 'D' USER 'ALICE'
-CREATE SCHEMA S
-CREATE SCHEMA T";
-
-const TABLES: &str = "CONNECT TO 'D' USER 'ALICE'
-CREATE SCHEMA ALICE
-CREATE TABLE T (A INTEGER)
-CREATE TABLE U (A INTEGER, B DATE)";
-
-/// The most items, columns and bytes of a journal, a script and its replies.
-const FULL: [(u32, u32, u64, &str, &str); 6] = [
-    (9, 9, 249, SCHEMAS, "OK\nOK\nOK\n"),
-    (9, 9, 248, SCHEMAS, "OK\nOK\nERR 20 Y0020 170\n"),
-    (9, 9, 169, SCHEMAS, "OK\nERR 20 Y0020 91\nERR 20 Y0020 91\n"),
-    (2, 9, 999, SCHEMAS, "OK\nOK\nERR 19 Y0019 3\n"),
-    (99, 1, 999, TABLES, "OK\nOK\nOK\nERR 19 Y0019 2\n"),
-    (99, 2, 999, TABLES, "OK\nOK\nOK\nOK\n"),
-];
-
-fn each_is_full<L: Ledger>(rt: &impl Abort, alloc: Global, blank: Blank) -> Result<(), Fail>
-    requires name { blank.name ≡ L.name }
-    requires parts { blank.parts ≡ L.parts }
-    requires whole { blank.parts ≡ 1 }
-{
-    let mut steps: Steps<L> = Steps::new(blank);
-    for (items, columns, journal, script, replies) in FULL {
-        let limits = Limits {
-            items,
-            columns,
-            journal,
-            stream: 999,
-        };
-        let sink = replies_of(alloc, &mut steps, limits, script)?;
-        assert_eq!(rt;
-            sink.bytes(),
-            replies.as_bytes(),
-            "{items} {columns} {journal}"
-        );
-    }
-    Ok(())
-}
-
-#[test]
-fn books_are_full(rt: HostRuntime) -> Result<(), Fail> {
-    each_is_full::<Brand>(&rt, rt.alloc(), Blank::new(1))
 }
 
 /// The words `script`, `--users` and a list.
