@@ -17,7 +17,7 @@ use Rattle.role_edit.specs.CreatedRoles.{IsTaken}
 use Rattle.edit_rules.specs.First.{First, Passes}
 use Rattle.statement_forms.specs.Written.{IsWritten}
 use Rattle.cat_engine.specs.declared.outcome.Outcome.{Outcome}
-use Rattle.revoke_cascade.proofs.Openings.{opening_good}
+use Rattle.catalogue_edits.proofs.Openings.{opening_good}
 use Rattle.catalogue_edits.proofs.SoundEdits.{revision_good, revision_leaves_users}
 use Rattle.cat_engine.specs.Contents.{Content, State}
 use Rattle.cat_engine.specs.Effects.{Changes, ChangesSession, connection_of}

@@ -12,3 +12,4 @@ pub mod SessionLaws
 pub mod Settled
 pub mod SharedLaws
 pub mod Narrow
+pub mod Spending

@@ -4,9 +4,13 @@ pub mod Connections
 pub mod Contents
 pub mod Effects
 pub mod Histories
+pub mod LookUps
 pub mod Refusals
 pub mod Runs
 pub mod Sessions
 pub mod Shared
 pub mod Steps
 pub mod WordRefusals
+pub use Rattle.catalogue_edits.specs.Board
+pub use Rattle.catalogue_edits.specs.contracts.store.Store
+pub use Rattle.catalogue_edits.specs.declared.warning.Warning

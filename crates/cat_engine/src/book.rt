@@ -3,9 +3,12 @@
 ghost use Rattle.std.specs.Prelude.{◌≡◌, ◌≢◌, ◌≤◌, ◌^◌, length, IfOk, OnErr};
 ghost use Rattle.std.specs.List.{AllPairs, All};
 ghost use Rattle.std.specs.Option.{option_copied};
+ghost use Rattle.cat_items.specs.declared.edit.Edit.{Edit};
 ghost use Rattle.cat_items.specs.Good.{IsGood};
 ghost use Rattle.cat_items.specs.Shape.{IsAuthorizationName};
+ghost use Rattle.catalogue_edits.specs.LookUps.{TakesFew};
 ghost use Rattle.cat_engine.specs.Histories.{IsOpening, IsReached};
+ghost use Rattle.cat_engine.specs.LookUps.{HasStepEdit, HasTextEdit};
 ghost use Rattle.cat_engine.specs.Sessions.{who_of};
 ghost use Rattle.cat_engine.specs.Contents.{IsJournalFull};
 ghost use Rattle.cat_engine.specs.Steps.{IsEntered, StepOrNone};
@@ -105,12 +108,15 @@ impl Book {
     /// Answers one statement of a session, given without its semicolon.
     ///
     /// A text that is answered gets an entry in the journal, a refused one too. `JournalFull` and `OutOfMemory` leave all as it was.
-    /// `steps` counts the look-ups in the board of the catalogue, which follow what a statement's edit touches.
+    /// `steps` counts the look-ups in the board of the catalogue, which follow what a statement's edit touches: none where there is no edit
+    /// or the journal is full, and no more than the bound of the edit, where nothing is missing.
     pub fn apply<L: Ledger>(&mut self, session: u32, text: &[u8], steps: &mut Steps<L>) -> Reply
         requires { length text.now ≤ 65535 }
         ensures step { StepOrNone self.old session text.now result self.new }
         ensures reached { IsReached self.old }
         ensures few { length self.new.journal ≤ 2 ^ 63 }
+        ensures idle { ((edit : Edit) → ¬ (HasStepEdit self.old session text.now edit)) → steps.new ≡ steps.old }
+        ensures few_look_ups { (edit : Edit) → HasStepEdit self.old session text.now edit → TakesFew self.old.content.catalogue edit steps.old steps.new }
     {
         let size = ENTRY_BYTES + text.len() as u64;
         if self.limits.journal - self.held < size {
@@ -133,6 +139,8 @@ impl Book {
         requires room { ¬ (IsJournalFull self.old text.now) }
         ensures ok { IfOk result (λ reply. IsEntered self.old session text.now reply self.new) }
         ensures err { OnErr result (self.new ≡ self.old) }
+        ensures idle { ((edit : Edit) → ¬ (HasTextEdit session self.old.content text.now edit)) → steps.new ≡ steps.old }
+        ensures few_look_ups { (edit : Edit) → HasTextEdit session self.old.content text.now edit → TakesFew self.old.content.catalogue edit steps.old steps.new }
     {
         let entry = Entry {
             session,

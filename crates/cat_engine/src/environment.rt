@@ -3,6 +3,7 @@
 ghost use Rattle.std.specs.Prelude.{◌≡◌, ◌≢◌, ◌↔◌, ◌∷◌, [], IfOk, IsTrue, OnErr};
 ghost use Rattle.std.specs.List.{AllPairs, Contains, All};
 ghost use Rattle.std.specs.Option.{option_copied};
+ghost use Rattle.cat_items.specs.declared.edit.Edit.{Edit};
 ghost use Rattle.cat_items.specs.declared.item.Item.{Item as ItemSpec};
 ghost use Rattle.cat_items.specs.Shape.{IsAuthorizationName};
 ghost use Rattle.cat_items.specs.Good.{IsGood};
@@ -10,10 +11,12 @@ ghost use Rattle.cat_items.specs.Catalogues.{IsInOrder, IsUserOf};
 ghost use Rattle.statement_forms.specs.Written.{IsWritten};
 ghost use Rattle.edit_rules.specs.First.{HasPassed, IsTested, Tested};
 ghost use Rattle.catalogue_changes.specs.Widths.{IsNarrow};
+ghost use Rattle.catalogue_edits.specs.LookUps.{TakesFew};
 ghost use Rattle.catalogue_edits.specs.Statements.{IsBuiltEdit};
 ghost use Rattle.cat_engine.specs.Built.{IsBuilt};
 ghost use Rattle.cat_engine.specs.ConnectionRefusals as connections;
 ghost use Rattle.cat_engine.specs.Effects as effects;
+ghost use Rattle.cat_engine.specs.LookUps.{HasSessionEdit, HasTextEdit};
 ghost use Rattle.cat_engine.specs.Refusals as refusals;
 ghost use Rattle.cat_engine.specs.Sessions.{who_of, connected, switched, disconnected, set_for};
 ghost use Rattle.cat_engine.specs.Steps.{Answers};
@@ -220,6 +223,8 @@ impl Environment {
         ensures tested { Tested (refusals.session_edit_refusals limits.now number self.old statement.now)
             (λ warning. effects.Revises statement.now number self.old warning self.new) (self.new ≡ self.old) result }
         ensures narrow { IsNarrow self.new.catalogue limits.now.columns }
+        ensures idle { ((edit : Edit) → ¬ (HasSessionEdit number self.old statement.now edit)) → steps.new ≡ steps.old }
+        ensures few { (edit : Edit) → HasSessionEdit number self.old statement.now edit → TakesFew self.old.catalogue edit steps.old steps.new }
     {
         match self.sessions.who(number) {
             None => Err(EditError::Refused(Refusal::NotConnected)),
@@ -242,6 +247,8 @@ impl Environment {
         ensures tested { Tested (refusals.session_edit_refusals limits.now number self.old statement.now)
             (λ outcome. effects.Edits statement.now number self.old outcome self.new) (self.new ≡ self.old) result }
         ensures narrow { IsNarrow self.new.catalogue limits.now.columns }
+        ensures idle { ((edit : Edit) → ¬ (HasSessionEdit number self.old statement.now edit)) → steps.new ≡ steps.old }
+        ensures few { (edit : Edit) → HasSessionEdit number self.old statement.now edit → TakesFew self.old.catalogue edit steps.old steps.new }
     {
         let warning = self.revise(alloc, limits, number, statement, steps)?;
         Ok(outcome_of(warning))
@@ -280,6 +287,8 @@ impl Environment {
         ensures tested { Tested (refusals.statement_refusals limits.now number self.old statement)
             (λ outcome. effects.Changes statement number self.old outcome self.new) (self.new ≡ self.old) result }
         ensures narrow { IsNarrow self.new.catalogue limits.now.columns }
+        ensures idle { ((edit : Edit) → ¬ (HasSessionEdit number self.old statement edit)) → steps.new ≡ steps.old }
+        ensures few { (edit : Edit) → HasSessionEdit number self.old statement edit → TakesFew self.old.catalogue edit steps.old steps.new }
     {
         match statement {
             Statement::Connect(parts) => self.connect(alloc, number, parts),
@@ -292,7 +301,8 @@ impl Environment {
         }
     }
 
-    /// Answers a text of a session. All its memory is taken before the first change; `Err` is want of memory.
+    /// Answers a text of a session. All its memory is taken before the first change; `Err` is want of memory. A text without an edit takes no
+    /// look-up, and one with an edit no more than its bound, where nothing is missing.
     pub fn answer<L: Ledger>(
         &mut self,
         alloc: Global,
@@ -305,6 +315,8 @@ impl Environment {
         ensures ok { IfOk result (λ reply. Answers limits.now number self.old text.now reply self.new) }
         ensures err { OnErr result (self.new ≡ self.old) }
         ensures narrow { IsNarrow self.new.catalogue limits.now.columns }
+        ensures idle { ((edit : Edit) → ¬ (HasTextEdit number self.old text.now edit)) → steps.new ≡ steps.old }
+        ensures few { (edit : Edit) → HasTextEdit number self.old text.now edit → TakesFew self.old.catalogue edit steps.old steps.new }
     {
         let statement = match read(alloc, text) {
             Ok(statement) => statement,

@@ -3,3 +3,4 @@ pub mod Plans
 pub mod Settled
 pub mod SoundEdits
 pub mod Stored
+pub use Rattle.revoke_cascade.proofs.Openings

@@ -21,6 +21,7 @@ use Rattle.edit_rules.proofs.FirstLaws.{passes_none, passes_more}
 use Rattle.catalogue_edits.specs.declared.warning.Warning.{Warning}
 use Rattle.catalogue_edits.specs.Limits.{too_many_items, too_many_columns}
 use Rattle.catalogue_edits.specs.Kinds.{kind_of}
+use Rattle.catalogue_edits.specs.LookUps.{HasEdit, TakesFew}
 use Rattle.catalogue_edits.specs.Restrict.{still_needed}
 use Rattle.catalogue_edits.specs.Revisions.{for_edit, outcome_refusals, revision_refusals, IsRevised}
 use Rattle.catalogue_edits.specs.Statements.{edit_refusals, IsEditOf}
@@ -93,3 +94,9 @@ revised limits c who s edit restrict warning new is passes of warns within made 
       (for_passes c who s edit (λ e. First (outcome_refusals limits c ((kind_of s).restricts) e)) of (subst (λ o. Passes (First (outcome_refusals limits c o edit))) is within)) passes_none),
   record { edit = edit; is_edit = of; is_new = made; warns = warns },
 )
+
+-- ---- look-ups
+
+-- what the edit takes, the statement's edit takes
+pub few_by_edit : (c : List Item) (who : Who) (s : Statement) (edit : Edit) (before after : ℕ) → IsEditOf c who s edit → TakesFew c edit before after → (other : Edit) → HasEdit c who s other → TakesFew c other before after
+few_by_edit c who s edit before after is few other has = subst (λ e. TakesFew c e before after) (edit_settled c who s edit other is has.is_edit) few

@@ -1,7 +1,9 @@
 pub mod Kinds
 pub mod Limits
+pub mod LookUps
 pub mod Restrict
 pub mod Revisions
 pub mod Statements
 pub mod Stores
 pub mod Warnings
+pub use Rattle.revoke_cascade.specs.contracts.board.Board

@@ -1,9 +1,11 @@
 //! What a statement makes of a catalogue.
 
 ghost use Rattle.std.specs.Prelude.{◌≡◌, ◌↔◌, IsTrue};
+ghost use Rattle.cat_items.specs.declared.edit.Edit.{Edit};
 ghost use Rattle.catalogue_changes.specs.Widths.{IsNarrow};
 ghost use Rattle.statement_forms.specs.Written.{IsWritten};
 ghost use Rattle.edit_rules.specs.First.{Tested};
+ghost use Rattle.catalogue_edits.specs.LookUps.{HasEdit, TakesFew};
 ghost use Rattle.catalogue_edits.specs.Revisions.{IsRevised, revision_refusals};
 ghost use Rattle.catalogue_edits.specs.Statements.{IsBuiltEdit};
 
@@ -32,7 +34,8 @@ pub fn is_edit(statement: &Statement) -> bool
 /// Makes of a catalogue what a statement makes of it, and tells what it warns of; or tells the first of its refusals
 /// (SQL:2003 part 2, 11 and 12), and leaves all as it is. `Memory` is want of memory, and leaves all as it is.
 ///
-/// `steps` counts the look-ups in the board: they follow what the edit touches. The catalogue's list is moved in one pass.
+/// `steps` counts the look-ups in the board: they follow what the edit touches. A statement without an edit takes none, and one with an edit
+/// no more than its bound, where nothing is missing. The catalogue's list is moved in one pass.
 pub fn revise<L: Ledger>(
     alloc: Global,
     limits: &Limits,
@@ -47,6 +50,8 @@ pub fn revise<L: Ledger>(
     ensures tested { Tested (revision_refusals limits.now store.old who.now statement.now)
         (λ warning. IsRevised store.old who.now statement.now warning store.new) (store.new ≡ store.old) result }
     ensures narrow { IsNarrow store.new limits.now.columns }
+    ensures idle { ((edit : Edit) → ¬ (HasEdit store.old who.now statement.now edit)) → steps.new ≡ steps.old }
+    ensures few { (edit : Edit) → HasEdit store.old who.now statement.now edit → TakesFew store.old edit steps.old steps.new }
 {
     let plan = plan_of(alloc, store.catalogue(), who, statement)?;
     store.change(alloc, limits, &plan.edit, plan.restrict, steps)?;

@@ -11,6 +11,7 @@ ghost use Rattle.catalogue_changes.specs.Widths.{IsNarrow};
 ghost use Rattle.edit_rules.specs.First.{HasPassed, IsTested, Tested};
 ghost use Rattle.edit_laws.specs.Sound.{IsSound};
 ghost use Rattle.catalogue_edits.specs.Limits.{too_many_columns, too_many_items};
+ghost use Rattle.catalogue_edits.specs.LookUps.{TakesFew};
 ghost use Rattle.catalogue_edits.specs.Restrict.{still_needed};
 ghost use Rattle.catalogue_edits.specs.Revisions.{outcome_refusals};
 ghost use Rattle.catalogue_edits.specs.Stores.{IsAdmitted};
@@ -121,6 +122,7 @@ fn admit<L: Ledger>(
     ensures held { Holds board.new c.now.items }
     ensures tested { IsTested (outcome_refusals limits.now c.now.items restrict edit.now) (λ admitted. (new : List Item) × IsAdmitted board.new c.now.items edit.now new admitted) result }
     ensures narrow { IfOk result (λ admitted. (new : List Item) → IsChange c.now.items new admitted.change → IsNarrow new limits.now.columns) }
+    ensures few { TakesFew c.now.items edit.now steps.old steps.new }
 {
     let cascade = Cascade::prepare(alloc, board, c, edit, steps)?;
     let change = change_of(alloc, c, edit, &cascade.effects)?;
@@ -148,7 +150,7 @@ impl Store {
     }
 
     /// Makes of the catalogue what an edit makes of it, unless RESTRICT or the limits refuse that: then, and where memory is wanting, all
-    /// stays as it is.
+    /// stays as it is. Where nothing is missing, it takes no more look-ups than the bound of the edit, however it ends.
     pub(crate) fn change<L: Ledger>(
         &mut self,
         alloc: Global,
@@ -161,6 +163,7 @@ impl Store {
         requires narrow { IsNarrow self.old limits.now.columns }
         ensures tested { Tested (outcome_refusals limits.now self.old restrict edit.now) (λ done. IsNew self.old edit.now self.new) (self.new ≡ self.old) result }
         ensures narrow { IsNarrow self.new limits.now.columns }
+        ensures few { TakesFew self.old edit.now steps.old steps.new }
     {
         let Admitted { cascade, change } = admit(
             alloc,

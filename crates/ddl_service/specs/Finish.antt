@@ -1,6 +1,6 @@
 -- What stands behind a script or a server: the tables of the Definition Schema, where they are asked for.
 use Rattle.std.specs.Prelude.{◌≡◌, ℕ, Bool, true, List, Option, Result, Ok, Err}
-use Rattle.cat_engine.specs.Contents.{State}
+use Rattle.sessions.specs.Contents.{State}
 use Rattle.printed_tables.specs.Written.{IsWritten}
 use Rattle.printed_tables.specs.declared.definition.Unwritten.{Unwritten}
 use Rattle.printed_tables.specs.declared.definition.Unwritten.TheVariants.{Memory, Failed}

@@ -1,10 +1,10 @@
 -- How the program may end.
 use Rattle.std.specs.Prelude.{◌≡◌, ◌⊎◌, ◌↔◌, ℕ, Bool, IsTrue, List, Option, Some}
-use Rattle.cat_engine.specs.Contents.{State}
+use Rattle.sessions.specs.Contents.{State}
 use Rattle.cat_items.specs.Good.{IsGood}
-use Rattle.cat_engine.specs.Histories.{IsOpening}
-use Rattle.cat_engine.specs.Shared.{history_of, origin_of}
-use Rattle.cat_engine.specs.declared.machine.Origin.{Origin}
+use Rattle.sessions.specs.Histories.{IsOpening}
+use Rattle.sessions.specs.Shared.{history_of, origin_of}
+use Rattle.sessions.specs.Origin.{Origin}
 use Rattle.sample_runs.specs.Sampled.{standard_limits}
 use Rattle.sessions.specs.Calls.{IsApplied}
 use Rattle.sessions.specs.Script.{Io, IsWellEnded, io}

@@ -5,9 +5,8 @@ ghost use Rattle.cat_items.specs.Good.{IsGood};
 ghost use Rattle.ddl_service.specs.Finish.{Finishes};
 ghost use Rattle.svc_io.specs.Faults.{Rose};
 
-use cat_engine::Book;
 use printed_tables::{Unwritten, write_definition};
-use sessions::Status;
+use sessions::{Book, Status};
 use std::alloc::Global;
 use svc_io::Sink;
 

@@ -8,10 +8,9 @@ ghost use Rattle.svc_io.specs.Faults.{Rose};
 
 use crate::command_line::{Asked, Command, asked_by};
 use crate::finish::finish;
-use cat_engine::Book;
 use cat_items::Limits;
 use sample_runs::sample;
-use sessions::{Ended, Status, listen, run_script};
+use sessions::{Book, Ended, Status, listen, run_script};
 use sql_tree::Name;
 use sql_words::Splitter;
 use std::alloc::{AllocError, Global};

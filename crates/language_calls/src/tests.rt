@@ -146,13 +146,17 @@ fn shown_behaviour(alloc: Global, behaviour: Behaviour) -> Result<Text, AllocErr
     }
 }
 
-/// What the copy of a statement's tree shows, or the refusal.
+fn told_tree(alloc: Global, tree: &Statement) -> Result<Text, Fail> {
+    Ok(shown(alloc, tree)?)
+}
+
+/// What a statement's tree shows, or the refusal.
 fn told_statement(alloc: Global, text: &[u8]) -> Result<Text, Fail> {
     let Ok(found) = words(alloc, text) else {
         return Err("no words")?;
     };
     match statement(alloc, &found) {
-        Ok(tree) => Ok(shown(alloc, &tree.copy(alloc)?)?),
+        Ok(tree) => told_tree(alloc, &tree),
         Err(GrammarError::Syntax) => said(alloc, "syntax"),
         Err(GrammarError::NotInProfile) => said(alloc, "not in profile"),
         Err(GrammarError::Memory) => Err("memory")?,

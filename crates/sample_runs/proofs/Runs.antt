@@ -1,9 +1,9 @@
 -- One text more.
 use Rattle.std.proofs.Common.{◌≡◌, ℕ, ◌+◌, ◌<◌, List, [], ◌∷◌, ◌++◌, length, take, get_or, refl, arith}
 use Rattle.std.proofs.lemmas.List.{take_more}
-use Rattle.cat_engine.specs.Contents.{State}
-use Rattle.cat_engine.specs.Runs.{missed}
-use Rattle.cat_engine.specs.declared.reply.Reply.{Reply}
+use Rattle.sessions.specs.Contents.{State}
+use Rattle.sessions.specs.EngineRuns.{missed}
+use Rattle.sessions.specs.Reply.{Reply}
 use Rattle.sessions.specs.Calls.{IsApplied}
 use Rattle.sessions.specs.Runs.{Run}
 use Rattle.sessions.proofs.RunLaws.{Run-append, count-append}

@@ -1,7 +1,7 @@
 -- Kinds of replies.
 use Rattle.std.specs.Prelude.{Bool, true, false}
-use Rattle.cat_engine.specs.declared.reply.Reply.{Reply}
-use Rattle.cat_engine.specs.declared.reply.Reply.TheVariants.{Ok, Warn, Rows, Refused, JournalFull}
+use Rattle.sessions.specs.Reply.{Reply}
+use Rattle.sessions.specs.Reply.TheVariants.{Ok, Warn, Rows, Refused, JournalFull}
 use Rattle.sample_runs.specs.declared.kinds.Kind.{Kind}
 use Rattle.sample_runs.specs.declared.kinds.Kind.TheVariants as kinds
 

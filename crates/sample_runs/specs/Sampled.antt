@@ -2,10 +2,10 @@
 use Rattle.std.specs.Prelude.{◌≡◌, ℕ, List, Option, length}
 use Rattle.cat_items.specs.Good.{IsGood}
 use Rattle.cat_items.specs.declared.limits.Limits.{Limits}
-use Rattle.cat_engine.specs.Contents.{State}
-use Rattle.cat_engine.specs.Histories.{IsOpening}
-use Rattle.cat_engine.specs.Runs.{missed}
-use Rattle.cat_engine.specs.declared.reply.Reply.{Reply}
+use Rattle.sessions.specs.Contents.{State}
+use Rattle.sessions.specs.Histories.{IsOpening}
+use Rattle.sessions.specs.EngineRuns.{missed}
+use Rattle.sessions.specs.Reply.{Reply}
 use Rattle.sample_texts.specs.Sample.{sample_texts}
 use Rattle.sessions.specs.Calls.{IsApplied}
 use Rattle.sessions.specs.Runs.{Run}

@@ -1,6 +1,6 @@
 -- What is written of a sample.
 use Rattle.std.specs.Prelude.{ℕ, List, [], ◌∷◌, ◌++◌, codes, count_by, decimal, length}
-use Rattle.cat_engine.specs.declared.reply.Reply.{Reply}
+use Rattle.sessions.specs.Reply.{Reply}
 use Rattle.sample_runs.specs.Kinds.{is_of}
 use Rattle.sample_runs.specs.declared.kinds.Kind.TheVariants.{Ok, Warn, Rows, Err}
 

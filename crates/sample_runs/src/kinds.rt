@@ -3,7 +3,7 @@
 ghost use Rattle.std.specs.Prelude.{◌≡◌, count_by};
 ghost use Rattle.sample_runs.specs.Kinds.{is_of};
 
-use cat_engine::Reply;
+use sessions::Reply;
 
 /// The kind of a reply, as its line begins.
 #[derive(Clone, Copy, Debug)]

@@ -2,17 +2,16 @@
 
 ghost use Rattle.std.specs.Prelude.{◌≡◌, ◌≢◌, ◌≤◌, ◌∷◌, [], length, All, AllPairs, IfOk};
 ghost use Rattle.cat_items.specs.Shape.{IsAuthorizationName};
-ghost use Rattle.cat_engine.specs.Runs.{missed};
+ghost use Rattle.sessions.specs.EngineRuns.{missed};
 ghost use Rattle.sessions.specs.Calls.{IsApplied};
 ghost use Rattle.sessions.specs.Runs.{Run};
 ghost use Rattle.svc_io.specs.Faults.{Rose};
 ghost use Rattle.sample_runs.specs.Sampled.{IsSummary, Sampled};
 
 use crate::summary::summary;
-use cat_engine::{Book, Reply};
 use cat_items::Limits;
 use sample_texts::sample_texts;
-use sessions::{Answerer, Status};
+use sessions::{Answerer, Book, Reply, Status};
 use sql_tree::{Name, Text};
 use std::alloc::{AllocError, Global};
 use svc_io::{Sink, put_all};

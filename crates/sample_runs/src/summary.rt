@@ -4,8 +4,8 @@ ghost use Rattle.std.specs.Prelude.{◌≡◌, ◌++◌, IfOk, OnOk};
 ghost use Rattle.sample_runs.specs.Summary as spec;
 
 use crate::kinds::{Kind, count_of};
-use cat_engine::Reply;
 use itoa::Buffer;
+use sessions::Reply;
 use sql_tree::Text;
 use std::alloc::{AllocError, Global};
 

@@ -5,8 +5,8 @@ use Rattle.std.proofs.MapsCrossing as maps
 use Rattle.item_index.specs.contracts.lists.Lists as Lists
 use Rattle.cat_items.proofs.Sends.{item_send}
 use Rattle.cat_items.specs.contracts.catalogue.Catalogue as Catalogue
-use Rattle.revoke_cascade.specs.contracts.board.Board as Board
-use Rattle.catalogue_edits.specs.contracts.store.Store as Store
+use Rattle.cat_engine.specs.Board as Board
+use Rattle.cat_engine.specs.Store as Store
 use Rattle.cat_engine.specs.contracts.session.Session as Session
 use Rattle.cat_engine.specs.contracts.sessions.Sessions as Sessions
 use Rattle.cat_engine.specs.contracts.journal.Entry as Entry

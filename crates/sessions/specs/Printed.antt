@@ -7,8 +7,8 @@ use Rattle.cat_items.specs.declared.edit.Refusal.{Refusal}
 use Rattle.cat_items.specs.declared.edit.Refusal.TheVariants as r
 use Rattle.cat_engine.specs.declared.reply.Reply.{Reply}
 use Rattle.cat_engine.specs.declared.reply.Reply.TheVariants.{Ok, Warn, Rows, Refused, JournalFull, OutOfMemory}
-use Rattle.catalogue_edits.specs.declared.warning.Warning.{Warning}
-use Rattle.catalogue_edits.specs.declared.warning.Warning.TheVariants.{NotRevoked, NotGranted}
+use Rattle.cat_engine.specs.Warning.{Warning}
+use Rattle.cat_engine.specs.Warning.TheVariants.{NotRevoked, NotGranted}
 
 -- the number and the SQLSTATE, and a space where something is carried
 abbrev pub code_text : Refusal → List ℕ

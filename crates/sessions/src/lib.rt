@@ -12,6 +12,7 @@ mod status;
 mod threads;
 
 pub use answerer::{Answerer, Turn};
+pub use cat_engine::{Book, Reply};
 pub use listening::listen;
 pub use print::write_reply;
 pub use script::{Ended, Ran, run_script};

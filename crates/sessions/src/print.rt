@@ -6,9 +6,8 @@ ghost use Rattle.svc_io.specs.Bytes.{Puts};
 ghost use Rattle.svc_io.specs.Faults.{HasCause};
 ghost use Rattle.sessions.specs.Printed as printed;
 
-use cat_engine::Reply;
+use cat_engine::{Reply, Warning};
 use cat_items::{Refusal, Row};
-use catalogue_edits::Warning;
 use item_texts::{write_item, write_name, write_need, write_path};
 use printed_rows::{write_number, write_rows};
 use svc_io::{Failed, Sink, put_all};

@@ -1,10 +1,9 @@
 //! Bodies of routines.
 
-ghost use Rattle.std.specs.Prelude.{◌≡◌, ◌↔◌, IfOk, IsTrue};
+ghost use Rattle.std.specs.Prelude.{◌≡◌, ◌↔◌, IsTrue};
 
 use crate::expr::{Expr, Query};
-use sql_names::{EqualCopy, Items, Name, ObjectName, Same};
-use std::alloc::{AllocError, Global};
+use sql_names::{Items, Name, ObjectName, Same};
 
 /// Whose rights a routine runs with: its owner's or its caller's.
 #[derive(Clone, Copy, PartialEq, Eq)]
@@ -73,115 +72,6 @@ pub enum AssignedValue {
     Null,
     Default,
     Expr(Expr),
-}
-
-impl Body {
-    /// An equal value.
-    pub fn copy(&self, alloc: Global) -> Result<Body, AllocError>
-        ensures { IfOk result (λ copy. copy ≡ self.now) }
-    {
-        match self {
-            Body::Return { security, expr } => Ok(Body::Return {
-                security: *security,
-                expr: expr.copy(alloc)?,
-            }),
-            Body::Atomic { security, acts } => Ok(Body::Atomic {
-                security: *security,
-                acts: acts.equal_copy(alloc)?,
-            }),
-        }
-    }
-}
-
-impl Act {
-    /// An equal value.
-    pub fn copy(&self, alloc: Global) -> Result<Act, AllocError>
-        ensures { IfOk result (λ copy. copy ≡ self.now) }
-    {
-        match self {
-            Act::Insert {
-                table,
-                columns,
-                source,
-            } => Ok(Act::Insert {
-                table: table.copy()?,
-                columns: columns.equal_copy(alloc)?,
-                source: source.copy(alloc)?,
-            }),
-            Act::Update {
-                table,
-                assignments,
-                filter,
-            } => Ok(Act::Update {
-                table: table.copy()?,
-                assignments: assignments.equal_copy(alloc)?,
-                filter: filter.equal_copy(alloc)?,
-            }),
-            Act::Delete { table, filter } => Ok(Act::Delete {
-                table: table.copy()?,
-                filter: filter.equal_copy(alloc)?,
-            }),
-            Act::Call { routine, arguments } => Ok(Act::Call {
-                routine: routine.copy()?,
-                arguments: arguments.equal_copy(alloc)?,
-            }),
-        }
-    }
-}
-
-impl EqualCopy for Act {
-    fn equal_copy(&self, alloc: Global) -> Result<Act, AllocError> {
-        self.copy(alloc)
-    }
-}
-
-impl InsertSource {
-    /// An equal value.
-    pub fn copy(&self, alloc: Global) -> Result<InsertSource, AllocError>
-        ensures { IfOk result (λ copy. copy ≡ self.now) }
-    {
-        match self {
-            InsertSource::Values(part) => Ok(InsertSource::Values(part.equal_copy(alloc)?)),
-            InsertSource::Query(part) => Ok(InsertSource::Query(part.copy(alloc)?)),
-        }
-    }
-}
-
-impl Assignment {
-    /// An equal value.
-    pub fn copy(&self, alloc: Global) -> Result<Assignment, AllocError>
-        ensures { IfOk result (λ copy. copy ≡ self.now) }
-    {
-        Ok(Assignment {
-            column: self.column.copy()?,
-            value: self.value.copy(alloc)?,
-        })
-    }
-}
-
-impl EqualCopy for Assignment {
-    fn equal_copy(&self, alloc: Global) -> Result<Assignment, AllocError> {
-        self.copy(alloc)
-    }
-}
-
-impl AssignedValue {
-    /// An equal value.
-    pub fn copy(&self, alloc: Global) -> Result<AssignedValue, AllocError>
-        ensures { IfOk result (λ copy. copy ≡ self.now) }
-    {
-        match self {
-            AssignedValue::Null => Ok(AssignedValue::Null),
-            AssignedValue::Default => Ok(AssignedValue::Default),
-            AssignedValue::Expr(part) => Ok(AssignedValue::Expr(part.copy(alloc)?)),
-        }
-    }
-}
-
-impl EqualCopy for AssignedValue {
-    fn equal_copy(&self, alloc: Global) -> Result<AssignedValue, AllocError> {
-        self.copy(alloc)
-    }
 }
 
 impl Body {

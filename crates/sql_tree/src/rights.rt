@@ -1,9 +1,6 @@
 //! Privileges, and to whom and by whom they are granted.
 
-ghost use Rattle.std.specs.Prelude.{◌≡◌, IfOk};
-
-use sql_names::{EqualCopy, Items, Name, ObjectName};
-use std::alloc::{AllocError, Global};
+use sql_names::{Items, Name, ObjectName};
 
 /// What a right allows, by its number. Only rights have ADMIN; no privilege of a statement names it.
 #[derive(Clone, Copy, PartialEq, Eq, PartialOrd, Ord, Hash)]
@@ -61,64 +58,4 @@ pub enum Grantee {
 pub enum Grantor {
     CurrentUser,
     CurrentRole,
-}
-
-impl Privileges {
-    /// An equal value.
-    pub fn copy(&self, alloc: Global) -> Result<Privileges, AllocError>
-        ensures { IfOk result (λ copy. copy ≡ self.now) }
-    {
-        match self {
-            Privileges::All => Ok(Privileges::All),
-            Privileges::Listed(part) => Ok(Privileges::Listed(part.equal_copy(alloc)?)),
-        }
-    }
-}
-
-impl Privilege {
-    /// An equal value.
-    pub fn copy(&self, alloc: Global) -> Result<Privilege, AllocError>
-        ensures { IfOk result (λ copy. copy ≡ self.now) }
-    {
-        Ok(Privilege {
-            action: self.action,
-            columns: self.columns.equal_copy(alloc)?,
-        })
-    }
-}
-
-impl EqualCopy for Privilege {
-    fn equal_copy(&self, alloc: Global) -> Result<Privilege, AllocError> {
-        self.copy(alloc)
-    }
-}
-
-impl Target {
-    /// An equal value.
-    pub fn copy(&self) -> Result<Target, AllocError>
-        ensures { IfOk result (λ copy. copy ≡ self.now) }
-    {
-        Ok(Target {
-            kind: self.kind,
-            object: self.object.copy()?,
-        })
-    }
-}
-
-impl Grantee {
-    /// An equal value.
-    pub fn copy(&self) -> Result<Grantee, AllocError>
-        ensures { IfOk result (λ copy. copy ≡ self.now) }
-    {
-        match self {
-            Grantee::Public => Ok(Grantee::Public),
-            Grantee::Named(part) => Ok(Grantee::Named(part.copy()?)),
-        }
-    }
-}
-
-impl EqualCopy for Grantee {
-    fn equal_copy(&self, _alloc: Global) -> Result<Grantee, AllocError> {
-        self.copy()
-    }
 }

@@ -102,24 +102,6 @@ pub struct DomainCheck {
     pub condition: Expr,
 }
 
-impl TableElement {
-    /// An equal value.
-    pub fn copy(&self, alloc: Global) -> Result<TableElement, AllocError>
-        ensures { IfOk result (λ copy. copy ≡ self.now) }
-    {
-        match self {
-            TableElement::Column(part) => Ok(TableElement::Column(part.copy(alloc)?)),
-            TableElement::Constraint(part) => Ok(TableElement::Constraint(part.copy(alloc)?)),
-        }
-    }
-}
-
-impl EqualCopy for TableElement {
-    fn equal_copy(&self, alloc: Global) -> Result<TableElement, AllocError> {
-        self.copy(alloc)
-    }
-}
-
 impl ColumnDefinition {
     /// An equal value.
     pub fn copy(&self, alloc: Global) -> Result<ColumnDefinition, AllocError>
@@ -243,11 +225,5 @@ impl DomainCheck {
             name: copy_optional_name(&self.name)?,
             condition: self.condition.copy(alloc)?,
         })
-    }
-}
-
-impl EqualCopy for DomainCheck {
-    fn equal_copy(&self, alloc: Global) -> Result<DomainCheck, AllocError> {
-        self.copy(alloc)
     }
 }

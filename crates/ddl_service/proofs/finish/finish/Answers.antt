@@ -1,5 +1,5 @@
 use Rattle.std.proofs.Common.{◌≡◌, ℕ, Bool, true, List, Option, Err, refl, subst, sym}
-use Rattle.cat_engine.specs.Contents.{State}
+use Rattle.sessions.specs.Contents.{State}
 use Rattle.cat_items.specs.declared.item.Item.{Item}
 use Rattle.printed_tables.specs.Written.{IsWritten}
 use Rattle.printed_tables.specs.declared.definition.Unwritten.{Unwritten}

@@ -1,5 +1,5 @@
 use Rattle.std.proofs.Common.{◌≡◌, take}
-use Rattle.cat_engine.specs.Runs.{missed}
+use Rattle.sessions.specs.EngineRuns.{missed}
 use Rattle.sessions.specs.Calls.{IsApplied}
 use Rattle.sessions.specs.Runs.{Run}
 use Rattle.sample_runs.proofs.run.run_all.Given as goal

@@ -22,3 +22,15 @@ invariant_of-self-2 g c =
     let held = ap bytes_held longer in
     let before = c.self.invariant.0 in
     (omega (arith, more, held, before), reached_more old new c.args.session c.args.text.now c.in_ok-reply.reply c.self.invariant.1 c.requires.few entered, c.in_ok-reply.ensures.narrow)
+
+pub returns-in_err-reply-clause-idle : goal.returns-in_err-reply-clause-idle
+returns-in_err-reply-clause-idle g c = rw (← c.self.view_is) c.in_err-reply.ensures.idle
+
+pub returns-in_err-reply-clause-few_look_ups : goal.returns-in_err-reply-clause-few_look_ups
+returns-in_err-reply-clause-few_look_ups g c = rw (← c.self.view_is) c.in_err-reply.ensures.few
+
+pub returns-clause-idle : goal.returns-clause-idle
+returns-clause-idle g c = rw (← c.self.view_is) c.in_ok-reply.ensures.idle
+
+pub returns-clause-few_look_ups : goal.returns-clause-few_look_ups
+returns-clause-few_look_ups g c = rw (← c.self.view_is) c.in_ok-reply.ensures.few

@@ -2,7 +2,7 @@ use Rattle.std.proofs.Common.{◌↔◌, List, sym, subst}
 use Rattle.std.specs.List.{Contains}
 use Rattle.cat_items.specs.declared.item.Item.{Item}
 use Rattle.cat_items.specs.Catalogues.{IsUserOf}
-use Rattle.revoke_cascade.proofs.Openings.{opening_good}
+use Rattle.catalogue_edits.proofs.Openings.{opening_good}
 use Rattle.cat_engine.proofs.environment.Environment.new.Goals as goal
 
 pub new-requires : goal.new-requires

@@ -27,6 +27,12 @@ returns-in_err-cascade-clause-tested g c =
 pub returns-in_err-cascade-clause-narrow : goal.returns-in_err-cascade-clause-narrow
 returns-in_err-cascade-clause-narrow g c = rw c.self.view_is c.requires.narrow
 
+pub returns-in_err-cascade-clause-few : goal.returns-in_err-cascade-clause-few
+returns-in_err-cascade-clause-few g c = rw (← c.self.view_is) c.in_err-cascade.ensures.few
+
+pub returns-in_err-reserve-clause-few : goal.returns-in_err-reserve-clause-few
+returns-in_err-reserve-clause-few g c = rw (← c.self.view_is) c.in_ok-cascade.ensures.few
+
 pub returns-in_err-reserve-clause-narrow : goal.returns-in_err-reserve-clause-narrow
 returns-in_err-reserve-clause-narrow g c = subst (λ l. IsNarrow l c.args.limits.now.columns) (sym c.reserve.ensures.items) (rw c.self.view_is c.requires.narrow)
 
@@ -65,3 +71,6 @@ returns-clause-narrow g c =
     let is = c.in_ok-cascade.ensures.tested.1.1 in
     let made = c.make.ensures new (subst (λ l. IsChange l new c.in_ok-cascade.field-0.change) (sym c.reserve.ensures.items) is.change) in
     subst (λ l. IsNarrow l c.args.limits.now.columns) (sym made) (c.in_ok-cascade.ensures.narrow new is.change)
+
+pub returns-clause-few : goal.returns-clause-few
+returns-clause-few g c = rw (← c.self.view_is) c.in_ok-cascade.ensures.few
