@@ -1,4 +1,5 @@
 pub mod AllLemmas
+pub mod AloneLemmas
 pub mod CycleLemmas
 pub mod Growths
 pub mod LoopLemmas

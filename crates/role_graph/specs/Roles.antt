@@ -6,7 +6,7 @@ use Rattle.cat_items.specs.declared.need.Auth.TheVariants.{Named}
 use Rattle.cat_items.specs.declared.item.Item.{Item}
 use Rattle.cat_items.specs.Order.{name_cmp}
 use Rattle.cat_items.specs.Ranges.{IsRange, IsRoleAuthorization}
-use Rattle.cat_items.specs.Reach.{Leads, Reaches}
+use Rattle.cat_items.specs.Reach.{Has, Leads, Reaches}
 
 -- one or more role authorizations lead from a name, role by role, to a role
 abbrev pub IsApplicable : List Item → List ℕ → List ℕ → Type 0
@@ -29,3 +29,7 @@ pub record AreNames (names : List (List ℕ)) (P : List ℕ → Type 0) : Type 0
 -- room for each role authorization of a list
 abbrev pub IsRoomFor : ℕ → List Item → Type 0
 IsRoomFor room items = (from to : ℕ) → IsRange items from to IsRoleAuthorization → to ≤ from + room
+
+-- no item of the list is a role authorization
+abbrev pub HasNoRoleAuthorization : List Item → Type 0
+HasNoRoleAuthorization items = Has items IsRoleAuthorization → ⊥

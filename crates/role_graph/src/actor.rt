@@ -1,6 +1,7 @@
 //! Authorization identifiers that are lent.
 
-ghost use Rattle.std.specs.Prelude.{◌≡◌};
+ghost use Rattle.std.specs.Prelude.{◌≡◌, ◌↔◌, [], IsTrue};
+ghost use Rattle.cat_items.specs.Reach.{Reaches};
 ghost use Rattle.role_graph.specs.Actors.{auth_of};
 
 use cat_items::Auth;
@@ -23,5 +24,16 @@ impl<'a> From<&'a Auth> for Actor<'a> {
             Auth::Public => Actor::Public,
             Auth::Named(name) => Actor::Named(name),
         }
+    }
+}
+
+/// Whether `a` reaches `g` where nobody is granted a role.
+pub(crate) fn reaches_alone(a: Actor<'_>, g: Actor<'_>) -> bool
+    ensures { IsTrue result ↔ Reaches [] (auth_of a.entry) (auth_of g.entry) }
+{
+    match (a, g) {
+        (_, Actor::Public) | (Actor::System, Actor::System) => true,
+        (Actor::Named(from), Actor::Named(to)) => from.same(to),
+        _ => false,
     }
 }

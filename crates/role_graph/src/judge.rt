@@ -9,10 +9,10 @@ ghost use Rattle.role_graph.specs.Judges.{counting};
 ghost use Rattle.role_graph.specs.Marked.{AreMarksOf, counted};
 ghost use Rattle.role_graph.specs.Roles.{IsRoomFor};
 
-use crate::actor::Actor;
+use crate::actor::{Actor, reaches_alone};
 use crate::grants::is_counted;
 use crate::walk::Walk;
-use cat_items::{Catalogue, Item, Marks, Part, places};
+use cat_items::{Catalogue, Item, Marks, Part, places, role_authorizations};
 use std::marker::Model;
 
 /// Answers questions about a catalogue by those of its items that count: those at marked places, or all where there
@@ -22,6 +22,8 @@ pub struct Judge<'a> {
     c: &'a Catalogue,
     marks: Option<&'a Marks>,
     walk: &'a mut Walk,
+    /// Whether the catalogue has role authorizations: where it has none, no walk is made.
+    has_roles: bool,
 }
 
 impl<'a> Model for Judge<'a> {
@@ -32,7 +34,8 @@ impl<'a> Model for Judge<'a> {
     ghost use Rattle.sql_tree.specs.contracts.expr.Query as query;
     ghost use Rattle.role_graph.specs.Judges.{Grounds};
     ghost use Rattle.role_graph.specs.Marked.{AreMarksOf};
-    ghost use Rattle.role_graph.specs.Roles.{IsRoomFor};
+    ghost use Rattle.role_graph.specs.Roles.{HasNoRoleAuthorization, IsRoomFor};
+    ghost use Rattle.std.specs.Prelude.{◌≡◌, false};
 
     ghost Value = { Grounds };
 
@@ -40,7 +43,7 @@ impl<'a> Model for Judge<'a> {
 
     ghost view = { λ j. record { items = j.c.now.items; marks = option_copied j.marks; walk = j.walk } };
 
-    ghost invariant = { λ j. IsRoomFor j.walk.now j.c.now.items × AreMarksOf (length j.c.now.items) (option_copied j.marks) };
+    ghost invariant = { λ j. IsRoomFor j.walk.now j.c.now.items × AreMarksOf (length j.c.now.items) (option_copied j.marks) × (j.has_roles ≡ false → HasNoRoleAuthorization j.c.now.items) };
 }
 
 /// A test of an item by itself.
@@ -74,7 +77,13 @@ impl<'a> Judge<'a> {
         ensures marks { result.marks ≡ option_copied marks.entry }
         ensures walk { result.walk ≡ walk.entry }
     {
-        Judge { c, marks, walk }
+        let all = role_authorizations(c);
+        Judge {
+            c,
+            marks,
+            walk,
+            has_roles: all.start < all.end,
+        }
     }
 
     /// Gives the room for walks back.
@@ -90,6 +99,9 @@ impl<'a> Judge<'a> {
         ensures answer { IsTrue result ↔ Reaches (counting self.old) (auth_of a.entry) (auth_of g.entry) }
         ensures same { self.new ≡ self.old }
     {
+        if !self.has_roles {
+            return reaches_alone(a, g);
+        }
         let c = self.c;
         let marks = self.marks;
         self.walk.reaches_by(c, marks, a, g)
