@@ -32,7 +32,7 @@ use Rattle.domain_edits.proofs.Alterations.{alter_domain_edit_settled, alter_dom
 use Rattle.domain_edits.proofs.NewDomains.{domain_edit_settled, domain_refusals_settled}
 use Rattle.object_edits.proofs.ViewsSettled.{view_edit_settled, view_refusals_settled}
 use Rattle.table_additions.proofs.Settled.{alter_table_refusals_settled, alteration_settled}
-use Rattle.table_creation.proofs.NewTables as tables
+use Rattle.table_additions.proofs.NewTables as tables
 use Rattle.domain_drop.proofs.DomainDrops.{drop_domain_edit_settled, drop_domain_refusals_settled}
 use Rattle.domain_drop.proofs.SchemaDrops.{drop_schema_edit_settled, drop_schema_refusals_settled}
 use Rattle.define_edit.specs.CreatedSchemas.{create_schema_refusals}

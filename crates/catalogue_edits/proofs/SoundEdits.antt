@@ -34,7 +34,7 @@ use Rattle.sql_tree.specs.declared.statement.DropKind.TheVariants as kind
 use Rattle.domain_drop.proofs.DomainDrops.{domain_drop_leaves_users, sound_domain_drop}
 use Rattle.domain_drop.proofs.SchemaDrops.{schema_drop_leaves_users, sound_schema_drop}
 use Rattle.table_additions.proofs.Settled.{alteration_leaves_users as table_alteration_leaves_users, sound_alteration as sound_table_alteration}
-use Rattle.table_creation.proofs.NewTables.{creation_leaves_users, sound_creation as sound_table}
+use Rattle.table_additions.proofs.NewTables.{creation_leaves_users, sound_creation as sound_table}
 use Rattle.routine_edit.specs.CreatedRoutines.{function_signature, procedure_signature}
 use Rattle.routine_edit.proofs.Settled.{function_is_sound, procedure_is_sound, routine_leaves_users}
 use Rattle.assertion_edit.proofs.NewAssertions.{assertion_leaves_users, sound_creation as sound_assertion}

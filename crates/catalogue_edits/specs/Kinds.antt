@@ -16,7 +16,7 @@ use Rattle.cat_items.specs.declared.edit.Who.{Who}
 use Rattle.cat_items.specs.declared.item.Item.{Item}
 use Rattle.edit_rules.specs.Names.{object_in}
 use Rattle.table_additions.specs.Alterations.{IsTableAlteration, alter_table_refusals}
-use Rattle.table_creation.specs.Tables.{IsTableCreation, create_table_refusals}
+use Rattle.table_additions.specs.Tables.{IsTableCreation, create_table_refusals}
 use Rattle.object_edits.specs.CreatedViews.{IsViewCreation, create_view_refusals}
 use Rattle.domain_edits.specs.AlteredDomains.{IsDomainAlteration, alter_domain_refusals}
 use Rattle.domain_edits.specs.CreatedDomains.{IsDomainCreation, create_domain_refusals}

@@ -6,7 +6,7 @@ use Rattle.cat_items.specs.declared.edit.Who.{Who}
 use Rattle.cat_items.specs.declared.item.Item.{Item}
 use Rattle.cat_items.specs.Bound.{IsBound}
 use Rattle.cat_items.specs.Fit.{IsFit}
-use Rattle.cascade_bound.specs.Missing.{MissesNothing}
+use Rattle.revoke_cascade.specs.Missing.{MissesNothing}
 use Rattle.edit_rules.specs.First.{First, Passes}
 use Rattle.catalogue_edits.specs.Statements.{edit_refusals, IsEditOf}
 

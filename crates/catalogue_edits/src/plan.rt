@@ -23,8 +23,7 @@ use role_edit::{create_role, grant_roles, revoke_roles};
 use routine_edit::{create_function, create_procedure};
 use sql_tree::{AlterTableAction, Behaviour, DropKind, DropObject, Statement};
 use std::alloc::Global;
-use table_additions::alter_table;
-use table_creation::create_table;
+use table_additions::{alter_table, create_table};
 
 /// An edit, what the statement that makes it warns of, and whether the statement has the behaviour RESTRICT: then
 /// whether its refusal is that of REVOKE and DROP ROLE.

@@ -1,11 +1,11 @@
 -- What stands behind a script or a server: the tables of the Definition Schema, where they are asked for.
 use Rattle.std.specs.Prelude.{◌≡◌, ℕ, Bool, true, List, Option, Result, Ok, Err}
-use Rattle.sessions.specs.Contents.{State}
+use Rattle.sample_runs.specs.Contents.{State}
 use Rattle.printed_tables.specs.Written.{IsWritten}
 use Rattle.printed_tables.specs.declared.definition.Unwritten.{Unwritten}
 use Rattle.printed_tables.specs.declared.definition.Unwritten.TheVariants.{Memory, Failed}
-use Rattle.sessions.specs.declared.status.Status.{Status}
-use Rattle.sessions.specs.declared.status.Status.TheVariants.{Done, WriteFault, OutOfMemory}
+use Rattle.sample_runs.specs.Status.{Status}
+use Rattle.sample_runs.specs.Status.TheVariants.{Done, WriteFault, OutOfMemory}
 
 abbrev pub status_of_tables : Result (Unit {0}) Unwritten → Status
 status_of_tables (Ok v) = Done

@@ -1,19 +1,19 @@
 -- How the program may end.
 use Rattle.std.specs.Prelude.{◌≡◌, ◌⊎◌, ◌↔◌, ℕ, Bool, IsTrue, List, Option, Some}
-use Rattle.sessions.specs.Contents.{State}
+use Rattle.sample_runs.specs.Contents.{State}
 use Rattle.cat_items.specs.Good.{IsGood}
-use Rattle.sessions.specs.Histories.{IsOpening}
-use Rattle.sessions.specs.Shared.{history_of, origin_of}
-use Rattle.sessions.specs.Origin.{Origin}
+use Rattle.sample_runs.specs.Histories.{IsOpening}
+use Rattle.sample_runs.specs.Shared.{history_of, origin_of}
+use Rattle.sample_runs.specs.Origin.{Origin}
 use Rattle.sample_runs.specs.Sampled.{standard_limits}
-use Rattle.sessions.specs.Calls.{IsApplied}
-use Rattle.sessions.specs.Script.{Io, IsWellEnded, io}
-use Rattle.sessions.specs.Script as scripts
-use Rattle.sessions.specs.Serving.{RanServe}
-use Rattle.sessions.specs.declared.script.Ended.{Ended}
-use Rattle.sessions.specs.declared.script.Ended.TheVariants as ended
-use Rattle.sessions.specs.declared.status.Status.{Status}
-use Rattle.sessions.specs.declared.status.Status.TheVariants.{Done, Usage, ReadFault, WriteFault, ListenFault, TooLong, Unfinished, OutOfMemory}
+use Rattle.sample_runs.specs.Calls.{IsApplied}
+use Rattle.sample_runs.specs.Script.{Io, IsWellEnded, io}
+use Rattle.sample_runs.specs.Script as scripts
+use Rattle.sample_runs.specs.Serving.{RanServe}
+use Rattle.sample_runs.specs.Ended.{Ended}
+use Rattle.sample_runs.specs.Ended.TheVariants as ended
+use Rattle.sample_runs.specs.Status.{Status}
+use Rattle.sample_runs.specs.Status.TheVariants.{Done, Usage, ReadFault, WriteFault, ListenFault, TooLong, Unfinished, OutOfMemory}
 use Rattle.ddl_service.specs.Commands.{Asks, AsksForDefinition}
 use Rattle.ddl_service.specs.Finish.{Finishes}
 use Rattle.ddl_service.specs.declared.command_line.Command.{Command}

@@ -6,7 +6,7 @@ ghost use Rattle.ddl_service.specs.Finish.{Finishes};
 ghost use Rattle.svc_io.specs.Faults.{Rose};
 
 use printed_tables::{Unwritten, write_definition};
-use sessions::{Book, Status};
+use sample_runs::{Book, Status};
 use std::alloc::Global;
 use svc_io::Sink;
 

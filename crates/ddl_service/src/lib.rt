@@ -6,8 +6,8 @@ mod finish;
 mod regular;
 mod start;
 
-pub use sample_runs::sample;
-pub use sessions::{
-    Ended, Over, Ran, Served, Status, run_script, serve, serve_session, write_reply,
+pub use sample_runs::{
+    Book, Ended, Over, Ran, Reply, Served, Status, run_script, sample, serve, serve_session,
+    write_reply,
 };
 pub use start::top;

@@ -1,7 +1,7 @@
 ghost use Rattle.std.specs.Prelude.{◌≡◌, ◌≢◌, ◌≤◌, IfOk, OnErr, map};
 ghost use Rattle.std.specs.String.{string_bytes};
 ghost use Rattle.sample_runs.specs.Sampled.{Sampled};
-ghost use Rattle.sessions.specs.Script.{io};
+ghost use Rattle.sample_runs.specs.Script.{io};
 ghost use Rattle.ddl_service.specs.Top as spec;
 ghost use Rattle.ddl_service.specs.Users.{AreUsers};
 ghost use Rattle.svc_io.specs.Faults.{Rose};
@@ -9,8 +9,7 @@ ghost use Rattle.svc_io.specs.Faults.{Rose};
 use crate::command_line::{Asked, Command, asked_by};
 use crate::finish::finish;
 use cat_items::Limits;
-use sample_runs::sample;
-use sessions::{Book, Ended, Status, listen, run_script};
+use sample_runs::{Book, Ended, Status, listen, run_script, sample};
 use sql_tree::Name;
 use sql_words::Splitter;
 use std::alloc::{AllocError, Global};

@@ -1,3 +1,4 @@
 pub mod Boards
 pub mod Effects
 pub mod Prepared
+pub use Rattle.cascade_bound.specs.Missing

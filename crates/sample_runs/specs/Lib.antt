@@ -1,3 +1,12 @@
 pub mod Kinds
 pub mod Sampled
 pub mod Summary
+pub use Rattle.sessions.specs.Calls
+pub use Rattle.sessions.specs.Contents
+pub use Rattle.sessions.specs.Histories
+pub use Rattle.sessions.specs.Origin
+pub use Rattle.sessions.specs.Script
+pub use Rattle.sessions.specs.Serving
+pub use Rattle.sessions.specs.Shared
+pub use Rattle.sessions.specs.declared.script.Ended
+pub use Rattle.sessions.specs.declared.status.Status

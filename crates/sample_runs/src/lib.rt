@@ -6,3 +6,7 @@ mod run;
 mod summary;
 
 pub use run::sample;
+pub use sessions::{
+    Book, Ended, Over, Ran, Reply, Served, Status, listen, run_script, serve, serve_session,
+    write_reply,
+};

@@ -2,9 +2,8 @@ mod serving;
 
 ghost use Rattle.std.specs.Prelude.{◌≡◌, [], IfOk};
 
-use cat_engine::Book;
 use cat_items::Limits;
-use ddl_service::{Status, top};
+use ddl_service::{Book, Status, top};
 use sql_tree::Name;
 use std::alloc::{AllocError, Global};
 use std::test::Fail;

@@ -11,3 +11,4 @@ pub mod SoundAdditions
 pub mod Standing
 pub mod TestedAdditions
 pub mod WrittenAdditions
+pub use Rattle.table_creation.proofs.NewTables

@@ -11,3 +11,4 @@ mod refusing;
 mod rights;
 
 pub use altering::alter_table;
+pub use table_creation::create_table;

@@ -6,7 +6,7 @@ ghost use Rattle.svc_io.specs.Faults.{HasCause, beside_of};
 use super::book;
 use cat_items::Limits;
 use catalog_lock::Shared;
-use ddl_service::{Ended, Status, serve, top};
+use ddl_service::{Ended, Reply, Status, serve, top};
 use std::alloc::{AllocError, Global};
 use std::hint::spin_loop;
 use std::io::{Read, Write};
@@ -28,7 +28,7 @@ fn a_pass_of_a_shared_book_makes_an_entry(rt: HostRuntime) -> Result<(), Fail> {
     let reply = shared.call(&rt, &mut one, b"CONNECT TO 'D' USER 'ALICE'");
     shared.join(&mut first, one);
     let book = shared.close(first);
-    assert!(rt; matches!(reply, cat_engine::Reply::Ok));
+    assert!(rt; matches!(reply, Reply::Ok));
     assert_eq!(rt; book.journal().len(), 1);
     assert_eq!(rt; book.journal()[0].session, 1);
     Ok(())

@@ -1,11 +1,11 @@
 use Rattle.std.proofs.Common.{◌≡◌, ℕ, Bool, true, List, Option, Err, refl, subst, sym}
-use Rattle.sessions.specs.Contents.{State}
+use Rattle.sample_runs.specs.Contents.{State}
 use Rattle.cat_items.specs.declared.item.Item.{Item}
 use Rattle.printed_tables.specs.Written.{IsWritten}
 use Rattle.printed_tables.specs.declared.definition.Unwritten.{Unwritten}
 use Rattle.printed_tables.specs.declared.definition.Unwritten.TheVariants.{Failed}
-use Rattle.sessions.specs.declared.status.Status.{Status}
-use Rattle.sessions.specs.declared.status.Status.TheVariants.{Done, WriteFault}
+use Rattle.sample_runs.specs.Status.{Status}
+use Rattle.sample_runs.specs.Status.TheVariants.{Done, WriteFault}
 use Rattle.ddl_service.specs.Finish.{Finishes}
 use Rattle.ddl_service.proofs.finish.finish.Goals as goal
 
