@@ -1,5 +1,5 @@
 -- A part of the order is a range of each list in order.
-use Rattle.std.proofs.Common.{◌≡◌, ◌≢◌, ◌↔◌, ◌<◌, ◌≤◌, ℕ, Bool, true, false, List, length, get_or, refl, sym, ◌∙◌, ap, subst, inl, inr, arith, nat_eq, nat_le, cond, eq-eqb, [], Option, Some, None, unwrap_or}
+use Rattle.std.proofs.Common.{◌≡◌, ◌≢◌, ◌↔◌, ◌<◌, ◌≤◌, ◌+◌, ℕ, Bool, true, false, List, length, get_or, refl, sym, ◌∙◌, ap, subst, inl, inr, arith, nat_eq, nat_le, cond, eq-eqb, [], Option, Some, None, unwrap_or}
 use Rattle.std.specs.List.Sorted.{IsNonDecreasingBy, IsPartitionedBy, IsPartitionPoint}
 use Rattle.std.specs.Ordering.{nat_cmp, ordering_index, ordering_then, ordering_reverse, is_lt, is_le}
 use Rattle.std.specs.Option.{option_cmp}
@@ -9,7 +9,8 @@ use Rattle.std.specs.FinMap.{IsAntisymmetric, nat_cmp-IsAntisymmetric, slice_cmp
 use Rattle.std.specs.declared.cmp.Ordering.{Ordering}
 use Rattle.std.specs.declared.cmp.Ordering.TheVariants.{Less, Equal, Greater}
 use Rattle.std.specs.Cmp.{nat_cmp_is, ranked}
-use Rattle.std.proofs.lemmas.Bool.{false≢true, cases_lt, cases_eq, ne_eqb}
+use Rattle.std.proofs.lemmas.Bool.{false≢true, cases_Bool, cases_lt, cases_eq, ne_eqb}
+use Rattle.std.proofs.lemmas.List.{get_or_default}
 use Rattle.std.proofs.lemmas.Cmp.{tied_itself}
 use Rattle.std.proofs.lemmas.List.Sorted.{IsPartitionedBy-leb}
 use Rattle.sql_names.specs.Names.{name_cmp-IsAntisymmetric}
@@ -26,7 +27,7 @@ use Rattle.cat_items.specs.declared.ranges.Part.TheVariants.{Objects, User, Role
 use Rattle.cat_items.specs.Keys.{object_of, path_in, need_of}
 use Rattle.cat_items.specs.Order.{name_cmp, object_cmp, need_cmp, target_cmp, action_number, kind_of, key_cmp, item_cmp}
 use Rattle.cat_items.specs.Catalogues.{IsInOrder}
-use Rattle.cat_items.specs.Ranges.{IsRange, IsIn, IsObjectIn, kind_in, number_of, object_place, place_in, schema_in}
+use Rattle.cat_items.specs.Ranges.{IsEndOf, IsStartOf, IsRange, IsIn, IsObjectIn, kind_in, number_of, object_place, place_in, schema_in}
 use Rattle.cat_items.proofs.OrderLemmas.{need_cmp-total}
 
 -- orders that tell apart what differs
@@ -471,3 +472,43 @@ range_between items part from to from_within to_within starts ends = record {
     crossed Less p q = false≢true (sym q)
     crossed Equal p q = false≢true p
     crossed Greater p q = false≢true p
+
+-- where a part ends that is gone over from its start
+
+-- each from the start to before a place is in the part, or before it
+abbrev pub AreWithin : Part → List Item → ℕ → ℕ → Type 0
+AreWithin part items start at = (k : ℕ) (d : Item) → start ≤ k → k < at → is_le (place_in part (get_or items k d)) ≡ true
+
+lt_le : (o : Ordering) → is_lt o ≡ true → is_le o ≡ true
+lt_le Less e = refl
+lt_le Equal e = absurd (false≢true e)
+lt_le Greater e = absurd (false≢true e)
+
+pub within_more : (part : Part) (items : List Item) (start at : ℕ) (x : Item) → AreWithin part items start at → at < length items → x ≡ get_or items at x → is_le (place_in part x) ≡ true → AreWithin part items start (at + 1)
+within_more part items start at x before low is here k d from below = elim (cases_lt k at) [
+  | inl earlier ↦ before k d from earlier
+  | inr now ↦
+      let e : at ≡ k = omega (arith, now, below) in
+      subst (λ n. is_le (place_in part (get_or items n d)) ≡ true) e (subst (λ (y : Item). is_le (place_in part y) ≡ true) (is ∙ get_or_default items at x d low) here)
+]
+
+all_within : (part : Part) (items : List Item) (start at : ℕ) → IsStartOf part items start → AreWithin part items start at → (k : ℕ) (d : Item) → k < at → is_le (place_in part (get_or items k d)) ≡ true
+all_within part items start at starts within k d below = elim (cases_lt k start) [
+  | inl before ↦ lt_le (place_in part (get_or items k d)) (starts.0 k d (omega arith) before)
+  | inr from ↦ within k d from below
+]
+
+pub ends_at_all : (part : Part) (items : List Item) (start at : ℕ) → IsStartOf part items start → AreWithin part items start at → length items ≤ at → IsEndOf part items at
+ends_at_all part items start at starts within all = (λ k d _ below. all_within part items start at starts within k d below, λ k d above low. absurd (omega (arith, above, low, all)))
+
+pub ends_here : (part : Part) (items : List Item) (start at : ℕ) (x : Item) → IsInOrder items → IsStartOf part items start → AreWithin part items start at → at < length items → x ≡ get_or items at x → is_le (place_in part x) ≡ false → IsEndOf part items at
+ends_here part items start at x order starts within low is behind = (λ k d _ below. all_within part items start at starts within k d below, later)
+  where
+    later : (k : ℕ) (d : Item) → at ≤ k → k < length items → is_le (place_in part (get_or items k d)) ≡ false
+    later k d above high = elim (cases_Bool (is_le (place_in part (get_or items k d)))) [
+      | inl holds ↦
+          let here : is_le (place_in part (get_or items at d)) ≡ true = ends_parted items order part at k d above high holds in
+          let x_is : x ≡ get_or items at d = is ∙ get_or_default items at x d low in
+          absurd (false≢true (sym behind ∙ subst (λ (y : Item). is_le (place_in part y) ≡ true) (sym x_is) here))
+      | inr fails ↦ fails
+    ]

@@ -1,6 +1,7 @@
 -- Ranges: descriptors that stand together in a catalogue.
-use Rattle.std.specs.Prelude.{◌≡◌, ◌<◌, ◌≤◌, ℕ, List, Option, Some, None, cond, nat_eq, length, slice_index_or}
-use Rattle.std.specs.Ordering.{nat_cmp}
+use Rattle.std.specs.Prelude.{◌≡◌, ◌<◌, ◌≤◌, ℕ, true, false, List, Option, Some, None, cond, nat_eq, length, slice_index_or}
+use Rattle.std.specs.Ordering.{is_le, is_lt, nat_cmp}
+use Rattle.std.specs.List.Sorted.{IsPartitionPoint}
 use Rattle.std.specs.declared.cmp.Ordering.{Ordering}
 use Rattle.sql_names.specs.NameBytes.{NameBytes, PathNames}
 use Rattle.sql_tree.specs.declared.rights.Action.{Action}
@@ -170,3 +171,11 @@ place_in (HeldOn action on) (item.Held r) = target_cmp r.need action (path_in on
 place_in (Grantable need) (item.Grantable r) = need_cmp r.need (need_of need)
 place_in (GrantableOn action on) (item.Grantable r) = target_cmp r.need action (path_in on)
 place_in part x = nat_cmp (kind_of x) (kind_in part)
+
+-- before the place stand the items that come before the part, and no others
+abbrev pub IsStartOf : Part → List Item → ℕ → Type 0
+IsStartOf part items at = IsPartitionPoint (λ x. is_lt (place_in part x) ≡ true) (λ x. is_lt (place_in part x) ≡ false) items at
+
+-- before the place stand the items that come before the part or are in it, and no others
+abbrev pub IsEndOf : Part → List Item → ℕ → Type 0
+IsEndOf part items at = IsPartitionPoint (λ x. is_le (place_in part x) ≡ true) (λ x. is_le (place_in part x) ≡ false) items at

@@ -1,8 +1,9 @@
 //! Descriptors that stand together in a catalogue.
 
-ghost use Rattle.std.specs.Prelude.{◌≡◌};
+ghost use Rattle.std.specs.Prelude.{◌≡◌, ◌≤◌, length};
+ghost use Rattle.cat_items.specs.Catalogues.{IsInOrder};
 ghost use Rattle.cat_items.specs.Order.{kind_of};
-ghost use Rattle.cat_items.specs.Ranges.{IsRange, IsIn, IsRoleAuthorization, IsGrantOf, IsAdminOptionOf, IsHeldOf, IsGrantableOf, IsObjectIn, kind_in, number_of, object_place, place_in, schema_in};
+ghost use Rattle.cat_items.specs.Ranges.{IsEndOf, IsRange, IsIn, IsStartOf, IsRoleAuthorization, IsGrantOf, IsAdminOptionOf, IsHeldOf, IsGrantableOf, IsObjectIn, kind_in, number_of, object_place, place_in, schema_in};
 ghost use Rattle.std.specs.Option.{option_copied};
 ghost use Rattle.cat_items.specs.Shape.{IsColumnOf};
 
@@ -188,14 +189,37 @@ fn place(part: Part<'_>, x: &Item) -> Ordering
     }
 }
 
+/// How many items are looked at one by one for the end of a part, as most parts are short.
+const NEAR: usize = 8;
+
+/// The end of a part that begins here, where it has any items.
+fn end_of(items: &[Item], part: Part<'_>, start: usize) -> usize
+    requires order { IsInOrder items.now }
+    requires within { start ≤ length items.now }
+    requires start { IsStartOf part items.now start }
+    ensures bound { result ≤ length items.now }
+    ensures end { IsEndOf part.entry items.now result }
+{
+    let mut end = start;
+    while end < items.len() && end - start < NEAR {
+        if !place(part, &items[end]).is_le() {
+            return end;
+        }
+        end += 1;
+    }
+    if end == items.len() {
+        return end;
+    }
+    items.partition_point(|x| place(part, x).is_le())
+}
+
 /// The places of a part. It takes no memory.
 pub fn places(c: &Catalogue, part: Part<'_>) -> Range<usize>
     ensures { IsRange c.now.items result.start result.end (IsIn part.entry) }
 {
     let items = c.items();
     let start = items.partition_point(|x| place(part, x).is_lt());
-    let end = items.partition_point(|x| place(part, x).is_le());
-    start..end
+    start..end_of(items, part, start)
 }
 
 /// The places of the objects of one kind in a schema. It takes no memory.
