@@ -63,6 +63,10 @@ cut_at_key items x at order within same = record {
     not_less y z less equal before =
         let again : item_cmp y x ≡ Less = item_cmp-total.trans y z x less before in cc
 
+-- where each item comes before x, none has its key
+pub none_behind : (items : List Item) (x : Item) → IsCut items (length items) x → (k : ℕ) → HasKeyAt items k x → ⊥
+none_behind items x cut k has = let less = cut.before k x has.0 in let same = has.1 x in cc
+
 -- what comes before the cut, and what doesn't
 pub before_cut : (items : List Item) (at : ℕ) (x : Item) → IsCut items at x → (y : Item) → Contains (take at items) y → item_cmp y x ≡ Less
 before_cut items at x cut = fact_from_take (λ y. item_cmp y x ≡ Less) items at cut.within cut.before

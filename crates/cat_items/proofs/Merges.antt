@@ -1,7 +1,7 @@
 -- Two runs in order that are put into one, and items that are brought behind the others.
-use Rattle.std.proofs.Common.{◌≡◌, ◌↔◌, ℕ, zero, suc, ◌+◌, ◌-◌, ◌<◌, ◌≤◌, List, [], ◌∷◌, ◌++◌, Some, None, length, get_or, take, drop, slice_get, length-append, append_assoc, sym, ap, subst, ◌∙◌, refl, inl, inr, arith}
+use Rattle.std.proofs.Common.{◌≡◌, ◌↔◌, ℕ, zero, suc, ◌+◌, ◌-◌, ◌<◌, ◌≤◌, List, [], ◌∷◌, ◌++◌, Some, None, Ordering, is_lt, true, length, get_or, take, drop, slice_get, length-append, append_assoc, sym, ap, subst, ◌∙◌, refl, inl, inr, arith}
 use Rattle.std.specs.List.{Contains}
-use Rattle.std.specs.declared.cmp.Ordering.TheVariants.{Less}
+use Rattle.std.specs.declared.cmp.Ordering.TheVariants.{Less, Equal, Greater}
 use Rattle.std.proofs.lemmas.List.{take-append-drop, take_at, drop_at, get_or_at, get_or_default, append-nil, length-take-le, length-drop, take_all, drop_all}
 use Rattle.std.proofs.lemmas.List.Elements.{Contains-append_left, Contains-append_right, Contains-append_cases, Contains-push}
 use Rattle.std.proofs.lemmas.Bool.{cases_lt}
@@ -91,6 +91,17 @@ cut_behind items x last order some at less = record {
   ];
   after = λ k d above high _. absurd (omega (arith, above, high));
 }
+
+less_from_test : (o : Ordering) → is_lt o ≡ true → o ≡ Less
+less_from_test Less e = refl
+less_from_test Equal e = cc
+less_from_test Greater e = cc
+
+-- so by a test of the last
+pub cut_by_test : (items : List Item) (x last : Item) (o : Ordering) → IsInOrder items → Some last ≡ slice_get items (length items - 1) → o ≡ item_cmp last x → is_lt o ≡ true → IsCut items (length items) x
+cut_by_test items x last o order at is test =
+    let there = at_place items (length items - 1) last at in
+    cut_behind items x last order (omega (arith, there.0)) there.1 (sym is ∙ less_from_test o test)
 
 -- The state of a merge: what is left of both runs, and what is done.
 pub record IsMerging (items origin : List Item) (old end : ℕ) (a b done : List Item) : Type 0 where

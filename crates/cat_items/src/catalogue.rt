@@ -1,6 +1,6 @@
 //! Catalogues.
 
-ghost use Rattle.std.specs.Prelude.{◌≡◌, ◌≢◌, ◌<◌, ◌≤◌, ◌+◌, ◌-◌, ◌↔◌, ◌⊎◌, ℕ, List, Contains, AllPairs, IfSome, IfNone, IfOk, OnOk, OnErr, vec_len, length, remove, slice_get};
+ghost use Rattle.std.specs.Prelude.{◌≡◌, ◌≢◌, ◌<◌, ◌≤◌, ◌+◌, ◌-◌, ◌↔◌, ◌⊎◌, ℕ, List, Contains, AllPairs, IfSome, IfNone, IfOk, OnOk, OnErr, IsTrue, IsFalse, vec_len, length, remove, slice_get};
 ghost use Rattle.std.specs.Vec.{vec_capacity};
 ghost use Rattle.finite_chains.specs.Chains.{IsWithin};
 ghost use Rattle.cat_items.specs.Batch.{HaveNoKeyInCommon, IsJoined, IsWithout};
@@ -122,6 +122,26 @@ impl Catalogue {
         insert_in_room(&mut self.items, at, item);
     }
 
+    /// Puts in an item where none has its key. Whether it was put in; `Err` is want of memory, and leaves the list.
+    pub fn put_new(&mut self, item: Item) -> Result<bool, AllocError>
+        ensures order { IsInOrder self.new.items }
+        ensures new { IfOk result (λ put. IsTrue put → (k : ℕ) → HasKeyAt self.old.items k item → ⊥) }
+        ensures members { IfOk result (λ put. IsTrue put → (x : Item) → Contains self.new.items x ↔ (Contains self.old.items x ⊎ (x ≡ item))) }
+        ensures len { IfOk result (λ put. IsTrue put → length self.new.items ≡ length self.old.items + 1) }
+        ensures found { IfOk result (λ put. IsFalse put → (k : ℕ) × HasKeyAt self.old.items k item) }
+        ensures same { IfOk result (λ put. IsFalse put → self.new ≡ self.old) }
+        ensures err { OnErr result (self.new ≡ self.old) }
+    {
+        match gap(self.items.as_slice(), &item) {
+            Some(at) => {
+                self.items.reserve(1)?;
+                insert_in_room(&mut self.items, at, item);
+                Ok(true)
+            }
+            None => Ok(false),
+        }
+    }
+
     /// Takes out all these items, in one pass. It takes no memory.
     pub fn take_out_all(&mut self, items: &[Item])
         requires out_order { IsInOrder items.now }
@@ -159,6 +179,22 @@ pub fn cut(items: &[Item], item: &Item) -> usize
     match items.binary_search_by(|x| compare_items(x, item)) {
         Ok(at) => at,
         Err(at) => at,
+    }
+}
+
+/// The cut of an item that often comes behind the last, or `None` where an item has its key.
+fn gap(items: &[Item], item: &Item) -> Option<usize>
+    requires { IsInOrder items.now }
+    ensures cut { IfSome result (λ at. IsCut items.now at item.now) }
+    ensures new { IfSome result (λ at. (k : ℕ) → HasKeyAt items.now k item.now → ⊥) }
+    ensures found { IfNone result ((k : ℕ) × HasKeyAt items.now k item.now) }
+{
+    match items.last() {
+        Some(last) if compare_items(last, item).is_lt() => Some(items.len()),
+        _ => match items.binary_search_by(|x| compare_items(x, item)) {
+            Ok(_) => None,
+            Err(at) => Some(at),
+        },
     }
 }
 

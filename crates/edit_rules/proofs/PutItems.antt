@@ -1,5 +1,5 @@
 -- An item that is put into a list.
-use Rattle.std.proofs.Common.{◌≡◌, ◌⊎◌, ◌↔◌, ℕ, List, get_or, sym, subst, inl, inr}
+use Rattle.std.proofs.Common.{◌≡◌, ◌⊎◌, ◌↔◌, ℕ, Bool, true, false, IsTrue, IsFalse, List, get_or, refl, sym, subst, inl, inr}
 use Rattle.std.specs.List.{Contains}
 use Rattle.std.specs.declared.cmp.Ordering.TheVariants.{Equal}
 use Rattle.std.proofs.lemmas.List.{get_or_default}
@@ -23,3 +23,10 @@ put_again items k item has own x = (λ h. inl h, from)
 
 pub put_new : (old reserved new : List Item) (item : Item) → reserved ≡ old → ((x : Item) → Contains new x ↔ (Contains reserved x ⊎ (x ≡ item))) → (x : Item) → Contains new x ↔ (Contains old x ⊎ (x ≡ item))
 put_new old reserved new item same members = subst (λ l. (x : Item) → Contains new x ↔ (Contains l x ⊎ (x ≡ item))) same members
+
+-- whether it was put in or is there
+pub put_or_there : (put : Bool) (old new : List Item) (item : Item) → (IsTrue put → (x : Item) → Contains new x ↔ (Contains old x ⊎ (x ≡ item))) → (IsFalse put → (k : ℕ) × HasKeyAt old k item) → (IsFalse put → new ≡ old) → ((y : Item) → Contains old y → item_cmp y item ≡ Equal → y ≡ item) → (x : Item) → Contains new x ↔ (Contains old x ⊎ (x ≡ item))
+put_or_there true old new item members found same own = members refl
+put_or_there false old new item members found same own =
+    let has = found refl in
+    subst (λ l. (x : Item) → Contains l x ↔ (Contains old x ⊎ (x ≡ item))) (sym (same refl)) (put_again old has.0 item has.1 own)

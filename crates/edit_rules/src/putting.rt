@@ -5,7 +5,7 @@ ghost use Rattle.std.specs.declared.cmp.Ordering.TheVariants.{Equal};
 ghost use Rattle.cat_items.specs.declared.item.Item.{Item};
 ghost use Rattle.cat_items.specs.Order.{item_cmp};
 
-use cat_items::{Catalogue, Item, find};
+use cat_items::{Catalogue, Item};
 use std::alloc::AllocError;
 
 /// Puts an item into a list in order, where it isn't there. `Err` is want of memory, and leaves the list.
@@ -14,12 +14,6 @@ pub fn put(items: &mut Catalogue, item: Item) -> Result<(), AllocError>
     ensures members { OnOk result ((x : Item) → Contains items.new.items x ↔ (Contains items.old.items x ⊎ (x ≡ item))) }
     ensures same { OnErr result (items.new.items ≡ items.old.items) }
 {
-    match find(items, &item) {
-        Some(_) => Ok(()),
-        None => {
-            items.reserve(1)?;
-            items.put_in(item);
-            Ok(())
-        }
-    }
+    items.put_new(item)?;
+    Ok(())
 }

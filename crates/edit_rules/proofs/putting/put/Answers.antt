@@ -1,10 +1,7 @@
-use Rattle.std.proofs.Common.{subst, sym, ℕ}
-use Rattle.cat_items.specs.Catalogues.{HasKeyAt}
-use Rattle.edit_rules.proofs.PutItems.{put_new}
+use Rattle.std.proofs.Common.{ap}
+use Rattle.cat_items.specs.Catalogues.{Listing}
+use Rattle.edit_rules.proofs.PutItems.{put_or_there}
 use Rattle.edit_rules.proofs.putting.put.Goals as goal
 
-pub put_in-requires-clause-new : goal.put_in-requires-clause-new
-put_in-requires-clause-new c = subst (λ l. (k : ℕ) → HasKeyAt l k c.args.item → ⊥) (sym c.reserve.ensures.items) c.in-None.ensures.none
-
-pub returns-in_ok-reserve-in-None-clause-members : goal.returns-in_ok-reserve-in-None-clause-members
-returns-in_ok-reserve-in-None-clause-members c = put_new c.args.items.now.items c.reserve.new.self.items c.put_in.new.self.items c.args.item c.reserve.ensures.items c.put_in.ensures.members
+pub returns-clause-members : goal.returns-clause-members
+returns-clause-members c = put_or_there _ _ _ _ c.in_ok-put_new.ensures.members c.in_ok-put_new.ensures.found (λ no. ap (λ (l : Listing). l.items) (c.in_ok-put_new.ensures.same no)) c.requires
