@@ -13,22 +13,46 @@ use Rattle.cat_items.specs.declared.item.Right.{Right}
 use Rattle.cat_items.specs.declared.item.RoleGrant.{RoleGrant}
 use Rattle.cat_items.specs.declared.item.Item.{Item}
 use Rattle.cat_items.specs.declared.item.Item.TheVariants as item
-use Rattle.cat_items.specs.Reach.{Reaches}
+use Rattle.std.specs.List.{Contains}
+use Rattle.cat_items.specs.Reach.{GrantsRole, Has, Leads, Reaches}
 use Rattle.cat_items.specs.Relevant.{ActsInRight, HasUsage, IsActor, IsBaseColumnNeed, IsNeedOf, IsObjectNeed, IsOwnedSchema, IsRightNeed, IsViewNeed, Owns, OwnsPath}
 use Rattle.cat_items.specs.Rights.{path_of}
-use Rattle.support_laws.proofs.Monotone.{has_more, has_some, reaches_more}
 use Rattle.cascade_laws.specs.Asks.{Asks, IsFarTopic, IsFirstTopic, IsFarRightTopic, by_name, by_far, by_option, of_need, of_supply, of_edges, of_admins}
 use Rattle.cascade_laws.specs.Concerns.{Seeks}
 use Rattle.cascade_laws.specs.Topics.{Topic, IsAuthTopic, IsColumnTopic, IsNameTopic, IsNeedTopic, IsObjectTopic, IsOptionTopic, IsOptionalDomainTopic, IsPartyTopic, IsRightTopic, IsRoleGrantTopic, IsUnder, authorization, role_named, schema, table, base_table, columns, column, domain, routine, key, supply, edges, admins, held, role_auth}
 use Rattle.board_graph.specs.Boards.{IsOwnTopic}
 use Rattle.asked_parts.specs.Parts.{IsAskedBy}
-use Rattle.asked_parts.specs.Rounds.{option_of}
+use Rattle.asked_parts.specs.Rounds.{Tells, option_of}
 
--- ---- over a longer part
+-- ---- over a part that has all that tells what is asked for
 
-module _ (l m : List Item) (within : IsWithin l m) where
+owned_tells : (name : List ℕ) (a : Auth) (y : Item) → IsOwnedSchema name a y → Tells y
+owned_tells name a (item.Schema z) is = tt
+owned_tells name a _ is = absurd is
+
+usage_tells : (o : Object) (need : Need) (y : Item) → HasUsage o need y → Tells y
+usage_tells o need (item.Column k) is = tt
+usage_tells o need _ is = absurd is
+
+base_tells : (v : View) (by : Action) (name : List ℕ) (need : Need) (y : Item) → IsBaseColumnNeed v by name need y → Tells y
+base_tells v by name need (item.Column k) is = tt
+base_tells v by name need _ is = absurd is
+
+object_tells : (l : List Item) (r : Right) (need : Need) (y : Item) → IsObjectNeed l r need y → Tells y
+object_tells l r need (item.View v) is = tt
+object_tells l r need (item.Routine z) is = tt
+object_tells l r need _ is = absurd is
+
+grant_tells : (role grantee : List ℕ) (y : Item) → GrantsRole role grantee y → Tells y
+grant_tells role grantee (item.RoleAuth g) is = tt
+grant_tells role grantee _ is = absurd is
+
+module _ (l m : List Item) (within : (y : Item) → Contains l y → Tells y → Contains m y) where
+  has_told : (P Q : Item → Type 0) → ((y : Item) → P y → Tells y) → ((y : Item) → P y → Q y) → Has l P → Has m Q
+  has_told P Q tells f h = (h.0, within h.0 h.1 (tells h.0 h.2), f h.0 h.2)
+
   owns_more : (name : List ℕ) (a : Auth) → Owns l name a → Owns m name a
-  owns_more name a is = has_more l m within (IsOwnedSchema name a) is
+  owns_more name a is = has_told (IsOwnedSchema name a) (IsOwnedSchema name a) (owned_tells name a) (λ y p. p) is
 
   owns_path_more : (path : List (List ℕ)) (a : Auth) → OwnsPath l path a → OwnsPath m path a
   owns_path_more [] a is = is
@@ -56,16 +80,26 @@ module _ (l m : List Item) (within : IsWithin l m) where
   actor_more (item.Grantable r) a is = in_right_more r r.grantor a is
   actor_more _ a is = absurd is
 
+  leads_more : (from : List ℕ) (roles : List (List ℕ)) (to : List ℕ) → Leads l from roles to → Leads m from roles to
+  leads_more from [] to is = is
+  leads_more from (role ∷ roles) to is = (has_told (GrantsRole role from) (GrantsRole role from) (grant_tells role from) (λ y p. p) is.0, leads_more role roles to is.1)
+
   reach_more : (a g : Auth) → Reaches l a g → Reaches m a g
-  reach_more a g is = reaches_more l m within a g is
+  reach_more a Public is = is
+  reach_more (Named from) (Named to) is = (is.0, leads_more from is.0 to is.1)
+  reach_more System System is = is
+  reach_more System (Named to) is = absurd is
+  reach_more Public (Named to) is = absurd is
+  reach_more Public System is = absurd is
+  reach_more (Named from) System is = absurd is
 
   view_need_more : (v : View) (by : Action) (at : Option (List ℕ)) (need : Need) → IsViewNeed l v by at need → IsViewNeed m v by at need
   view_need_more v action.Select at need is = is
   view_need_more v action.Insert None need is = is
   view_need_more v action.Update None need is = is
   view_need_more v action.Delete None need is = is
-  view_need_more v action.Insert (Some name) need is = has_more l m within (IsBaseColumnNeed v action.Insert name need) is
-  view_need_more v action.Update (Some name) need is = has_more l m within (IsBaseColumnNeed v action.Update name need) is
+  view_need_more v action.Insert (Some name) need is = has_told (IsBaseColumnNeed v action.Insert name need) (IsBaseColumnNeed v action.Insert name need) (base_tells v action.Insert name need) (λ y p. p) is
+  view_need_more v action.Update (Some name) need is = has_told (IsBaseColumnNeed v action.Update name need) (IsBaseColumnNeed v action.Update name need) (base_tells v action.Update name need) (λ y p. p) is
   view_need_more v action.Delete (Some name) need is = absurd is
   view_need_more v action.References at need is = absurd is
   view_need_more v action.Usage at need is = absurd is
@@ -78,12 +112,12 @@ module _ (l m : List Item) (within : IsWithin l m) where
   object_need_more r need _ is = absurd is
 
   right_need_more : (r : Right) (a : Auth) (need : Need) → IsRightNeed l r a need → IsRightNeed m r a need
-  right_need_more r System need is = has_some l m (IsObjectNeed l r need) (IsObjectNeed m r need) within (object_need_more r need) is
+  right_need_more r System need is = has_told (IsObjectNeed l r need) (IsObjectNeed m r need) (object_tells l r need) (object_need_more r need) is
   right_need_more r Public need is = is
   right_need_more r (Named name) need is = is
 
   need_more : (x : Item) (need : Need) → IsNeedOf l x need → IsNeedOf m x need
-  need_more (item.Table t) need is = has_more l m within (HasUsage t need) is
+  need_more (item.Table t) need is = has_told (HasUsage t need) (HasUsage t need) (usage_tells t need) (λ y p. p) is
   need_more (item.View v) need is = is
   need_more (item.Column k) need is = is
   need_more (item.DomainCheck d) need is = is
@@ -98,7 +132,7 @@ module _ (l m : List Item) (within : IsWithin l m) where
   seeks_more : (x : Item) (a : Auth) → Seeks l x a → Seeks m x a
   seeks_more x a is = (actor_more x a is.0, elim is.1 [ inl needs ↦ inl (needs.0, need_more x needs.0 needs.1) | inr grants ↦ inr grants ])
 
-  pub asks_more : (x : Item) (t : Topic) → Asks l x t → Asks m x t
+  asks_more : (x : Item) (t : Topic) → Asks l x t → Asks m x t
   asks_more x t (by_name e) = by_name e
   asks_more x t (by_far e) = by_far e
   asks_more x t (by_option e) = by_option e
@@ -107,8 +141,12 @@ module _ (l m : List Item) (within : IsWithin l m) where
   asks_more x t (of_edges a name seeks way e) = of_edges a name (seeks_more x a seeks) (reach_more a (Named name) way) e
   asks_more x t (of_admins a role name grants acts way e) = of_admins a role name grants (actor_more x a acts) (reach_more a (Named name) way) e
 
-  pub asked_by_more : (suspects : List Item) (k : Item) → IsAskedBy l suspects k → IsAskedBy m suspects k
-  asked_by_more suspects k h = (h.0, h.1, (h.2.0, (asks_more h.0 h.2.0 h.2.1.0, h.2.1.1), h.2.2))
+  pub asked_by_told : (suspects : List Item) (k : Item) → IsAskedBy l suspects k → IsAskedBy m suspects k
+  asked_by_told suspects k h = (h.0, h.1, (h.2.0, (asks_more h.0 h.2.0 h.2.1.0, h.2.1.1), h.2.2))
+
+-- so over a longer part
+pub asked_by_more : (l m : List Item) (within : IsWithin l m) (suspects : List Item) (k : Item) → IsAskedBy l suspects k → IsAskedBy m suspects k
+asked_by_more l m within suspects k h = asked_by_told l m (λ y c _. within y c) suspects k h
 
 -- ---- topics that have keys of their own
 

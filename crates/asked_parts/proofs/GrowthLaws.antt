@@ -1,5 +1,5 @@
 -- Lists in order that grow, and sums over lists without repeats.
-use Rattle.std.proofs.Common.{◌≡◌, ◌⊎◌, inl, inr, ℕ, suc, ◌+◌, ◌<◌, ◌≤◌, List, [], ◌∷◌, ◌++◌, length, get_or, take, drop, refl, sym, ◌∙◌, ap, subst, arith}
+use Rattle.std.proofs.Common.{◌≡◌, ◌⊎◌, inl, inr, ℕ, Bool, true, false, IsTrue, IsFalse, suc, ◌+◌, ◌<◌, ◌≤◌, List, [], ◌∷◌, ◌++◌, length, get_or, take, drop, refl, sym, ◌∙◌, ap, subst, arith}
 use Rattle.std.specs.List.{Contains, sum_by}
 use Rattle.std.specs.declared.cmp.Ordering.TheVariants.{Less, Equal, Greater}
 use Rattle.std.proofs.lemmas.Bool.{cases_lt}
@@ -9,7 +9,7 @@ use Rattle.std.proofs.lemmas.List.Sums.{sum_by-cons}
 use Rattle.finite_chains.specs.Chains.{IsWithin}
 use Rattle.finite_chains.proofs.Members.{Contains-cases, Contains-head, Contains-nil, Contains-tail}
 use Rattle.cat_items.specs.declared.item.Item.{Item}
-use Rattle.cat_items.specs.Catalogues.{IsInOrder}
+use Rattle.cat_items.specs.Catalogues.{HasKeyAt, IsInOrder}
 use Rattle.cat_items.specs.Order.{item_cmp}
 use Rattle.cat_items.proofs.OrderLemmas.{item_cmp-total}
 use Rattle.topic_keys.specs.Lists.{Gets}
@@ -132,3 +132,17 @@ grew_by_none old part new items i x low is grown more step so_far few =
     let now : Contains part x × (new ≡ part) = step (omega (arith, few, grown)) in
     let before : IsWithin (take i items) old × (part ≡ old) = so_far (omega (arith, few, more)) in
     (within_next i items old x low is before.0 (subst (λ l. Contains l x) before.1 now.0), now.1 ∙ before.1)
+
+-- ---- an item that is put in, or there
+
+pub no_shorter : (put : Bool) (old new : List Item) → (IsTrue put → length new ≡ length old + 1) → (IsFalse put → new ≡ old) → length old ≤ length new
+no_shorter true old new longer same = omega (arith, longer refl)
+no_shorter false old new longer same = omega (arith, ap length (same refl))
+
+pub is_there : (put : Bool) (old new : List Item) (copy item : Item) → copy ≡ item → (IsTrue put → length new ≡ length old + 1) → (IsFalse put → (k : ℕ) × HasKeyAt old k copy) → (IsFalse put → new ≡ old) → ((y : Item) → Contains old y → item_cmp y item ≡ Equal → y ≡ item) → length new ≤ length old → Contains old item × (new ≡ old)
+is_there true old new copy item is longer found same own short = absurd (omega (arith, longer refl, short))
+is_there false old new copy item is longer found same own short =
+    let has = found refl in
+    let y : Item = get_or old has.0 item in
+    let tie : item_cmp y item ≡ Equal = subst (λ z. item_cmp y z ≡ Equal) is (has.1.1 item) in
+    ((has.0, has.1.0, own y (has.0, has.1.0, get_or_default old has.0 y item has.1.0) tie), same refl)

@@ -4,4 +4,5 @@ pub mod GrowthLaws
 pub mod MoreLaws
 pub mod PartLaws
 pub mod RoundLaws
+pub mod TellLaws
 pub mod UnderLaws

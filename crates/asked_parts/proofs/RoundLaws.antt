@@ -18,9 +18,9 @@ use Rattle.board_graph.specs.BoardKeys.{IsHelper}
 use Rattle.board_graph.proofs.Keys.{topic_is_helper}
 use Rattle.topic_keys.specs.Lists.{Gets}
 use Rattle.asked_parts.specs.Parts.{HasAsked, IsAskedBy}
-use Rattle.asked_parts.specs.Rounds.{IsBegun, IsClosed, IsLeast, IsUnderWay}
+use Rattle.asked_parts.specs.Rounds.{IsBegun, IsClosed, IsLeast, IsUnderWay, Tells}
 use Rattle.asked_parts.specs.Under.{AreApart, IsUnderAny, IsUnderKey, IsUnmarked, look_ups}
-use Rattle.asked_parts.proofs.AskLaws.{asked_by_more}
+use Rattle.asked_parts.proofs.AskLaws.{asked_by_more, asked_by_told}
 use Rattle.asked_parts.proofs.GrowthLaws.{IsOnce, no_more, once, once_append}
 use Rattle.asked_parts.proofs.UnderLaws.{flipped, helper_is_granted, itself}
 
@@ -113,12 +113,12 @@ module _ (g : Graph Item) (marks : List ℕ) (suspects part asked all : List Ite
           found = found_new;
         }
 
-        -- where nothing that was found is new, the part has all
-        pub closed_new : IsWithin found part → IsClosed g marks suspects part_new
-        closed_new none = record { begun = begun_new; asked = λ k y h under. found_new k y (known k (asked_by_more part_new part back suspects k h)) under }
+        -- where others ask by nothing that was found and is new, the part has all
+        pub closed_new : ((y : Item) → Contains found y → Tells y → Contains part y) → IsClosed g marks suspects part_new
+        closed_new none = record { begun = begun_new; asked = λ k y h under. found_new k y (known k (asked_by_told part_new part back suspects k h)) under }
           where
-            back : IsWithin part_new part
-            back y h = elim ((gets y).0 h) [ inl old ↦ old | inr f ↦ none y f ]
+            back : (y : Item) → Contains part_new y → Tells y → Contains part y
+            back y h tells = elim ((gets y).0 h) [ inl old ↦ old | inr f ↦ none y f tells ]
 
             known : (k : Item) → IsAskedBy part suspects k → Contains asked_new k
             known k h = elim (there_or_not asked k (asked_is_granted part suspects k h)) [

@@ -54,3 +54,12 @@ pub record HasAskedAll (g : Graph Item) (marks : List ℕ) (suspects part asked 
 -- Nothing was left to be asked for by those of the suspects that are not among these further ones.
 abbrev pub WasAsked : Graph Item → List ℕ → List Item → List Item → List Item → List Item → Type 0
 WasAsked g marks suspects more part asked = (before : List Item) × HasAskedAll g marks before part asked × ((x : Item) → Contains suspects x ↔ (Contains before x ⊎ Contains more x))
+
+-- Others ask by the item: by a schema for its owner, by a view, a routine or a column for what it needs, and by a role authorization for the role.
+abbrev pub Tells : Item → Type 0
+Tells (item.Schema z) = Unit {0}
+Tells (item.View v) = Unit {0}
+Tells (item.Column c) = Unit {0}
+Tells (item.Routine r) = Unit {0}
+Tells (item.RoleAuth g) = Unit {0}
+Tells x = ⊥

@@ -9,7 +9,7 @@ ghost use Rattle.cat_items.specs.Catalogues.{IsInOrder};
 ghost use Rattle.cat_items.specs.Order.{item_cmp};
 ghost use Rattle.topic_keys.specs.Lists.{Gets};
 
-use cat_items::{Catalogue, Item, find};
+use cat_items::{Catalogue, Item};
 use std::alloc::AllocError;
 
 /// Puts in a copy of an item, where it isn't there.
@@ -19,15 +19,9 @@ fn put_copy(part: &mut Catalogue, item: &Item) -> Result<(), AllocError>
     ensures len { OnOk result (length part.old.items ≤ length part.new.items) }
     ensures there { OnOk result (length part.new.items ≤ length part.old.items → Contains part.old.items item.now × (part.new.items ≡ part.old.items)) }
 {
-    match find(part, item) {
-        Some(_) => Ok(()),
-        None => {
-            let copy = item.copy()?;
-            part.reserve(1)?;
-            part.put_in(copy);
-            Ok(())
-        }
-    }
+    let copy = item.copy()?;
+    part.put_new(copy)?;
+    Ok(())
 }
 
 /// Puts in copies of these items: whether any of them is new.

@@ -6,6 +6,7 @@ mod beginning;
 mod growing;
 mod helpers;
 mod rounds;
+mod telling;
 mod under;
 
 pub use helpers::is_helper;

@@ -12,6 +12,7 @@ ghost use Rattle.asked_parts.specs.Under.{AreApart, look_ups};
 use crate::asking::asked_by;
 use crate::beginning::begun;
 use crate::growing::put_copies;
+use crate::telling::any_tells;
 use crate::under::items_under;
 use cat_items::{Catalogue, Item};
 use indexmap::IndexSet;
@@ -20,7 +21,7 @@ use std::alloc::{AllocError, Global};
 use std::hash::BuildHasher;
 use std::sync::ledger::Ledger;
 
-/// Puts in what is asked for over the part, and wasn't yet: whether any of it is new.
+/// Puts in what is asked for over the part, and wasn't yet: whether more may be asked for by it.
 fn round<S: BuildHasher + Drop, L: Ledger>(
     alloc: Global,
     board: &Index<Item, S>,
@@ -45,7 +46,8 @@ fn round<S: BuildHasher + Drop, L: Ledger>(
     let found = items_under(alloc, board, marks, keys.items(), steps)?;
     asked.reserve(keys.items().len())?;
     asked.put_in_all(keys.into_items());
-    put_copies(part, found.items())
+    let grew = put_copies(part, found.items())?;
+    Ok(grew && any_tells(found.items()))
 }
 
 /// Puts in more suspects, and all that the suspects ask for and that wasn't asked for yet: `suspects` are all of them. It looks up what the

@@ -1,4 +1,4 @@
-use Rattle.std.proofs.Common.{◌≡◌, ◌↔◌, ◌+◌, ◌≤◌, false, inl, inr, List, arith, subst, sym}
+use Rattle.std.proofs.Common.{◌≡◌, ◌∙◌, ◌↔◌, ◌+◌, ◌≤◌, inl, inr, List, arith, subst, sym}
 use Rattle.std.specs.List.{Contains, sum_by}
 use Rattle.finite_chains.specs.Chains.{IsWithin}
 use Rattle.cat_items.specs.declared.item.Item.{Item}
@@ -7,13 +7,13 @@ use Rattle.cat_items.specs.Catalogues.{IsInOrder}
 use Rattle.board_graph.specs.BoardKeys.{IsHelper}
 use Rattle.topic_keys.specs.Lists.{Gets}
 use Rattle.asked_parts.specs.Parts.{IsAskedBy}
-use Rattle.asked_parts.specs.Rounds.{IsClosed, IsLeast, IsUnderWay}
+use Rattle.asked_parts.specs.Rounds.{IsClosed, Tells}
 use Rattle.asked_parts.specs.Under.{IsUnderAny, look_ups}
 use Rattle.asked_parts.proofs.RoundLaws.{asked_within, closed_new, cost_within, found_apart, fresh_apart, fresh_is_helper, least_new, sums_within, way_new}
 use Rattle.asked_parts.proofs.AskLaws.{asked_by_more}
 use Rattle.asked_parts.proofs.GrowthLaws.{no_more, once}
-use Rattle.asked_parts.proofs.UnderLaws.{if_ok_also, on_ok, on_ok_both}
 use Rattle.asked_parts.proofs.rounds.round.Goals as goal
+use Rattle.asked_parts.proofs.rounds.round.Goals.{else-grew, then-grew}
 
 pub returns-in_err-keys-clause-few : goal.returns-in_err-keys-clause-few
 returns-in_err-keys-clause-few g c =
@@ -129,8 +129,7 @@ returns-clause-way g c =
     let part_new = c.put_copies.new.part.items in
     let asked_new = c.put_in_all.new.self.items in
     let joined : IsJoined asked fresh asked_new = subst (λ (l : List Item). IsJoined l fresh asked_new) c.reserve.ensures.items (subst (λ (l : List Item). IsJoined c.reserve.new.self.items l asked_new) c.into_items.ensures.items c.put_in_all.ensures.members) in
-    on_ok_both (Gets (Contains c.items-5.result.now) part part_new) (IsInOrder part_new) (IsUnderWay graph marks suspects part_new asked_new) c.put_copies.result
-    (λ h order. way_new graph marks suspects part asked all way all_are fresh fresh_are found found_are part_new asked_new (subst (λ (l : List Item). Gets (Contains l) part part_new) c.items-5.ensures.items h) joined order c.put_in_all.ensures.order) c.put_copies.ensures.members c.put_copies.ensures.order
+    way_new graph marks suspects part asked all way all_are fresh fresh_are found found_are part_new asked_new (subst (λ (l : List Item). Gets (Contains l) part part_new) c.items-5.ensures.items c.in_ok-grew.ensures.members) joined c.in_ok-grew.ensures.order c.put_in_all.ensures.order
 
 pub returns-clause-closed : goal.returns-clause-closed
 returns-clause-closed g c =
@@ -149,9 +148,27 @@ returns-clause-closed g c =
     let part_new = c.put_copies.new.part.items in
     let asked_new = c.put_in_all.new.self.items in
     let joined : IsJoined asked fresh asked_new = subst (λ (l : List Item). IsJoined l fresh asked_new) c.reserve.ensures.items (subst (λ (l : List Item). IsJoined c.reserve.new.self.items l asked_new) c.into_items.ensures.items c.put_in_all.ensures.members) in
-    if_ok_also (Gets (Contains c.items-5.result.now) part part_new) (λ more. more ≡ false → IsWithin c.items-5.result.now part) (λ more. more ≡ false → IsClosed graph marks suspects part_new) c.put_copies.result
-    (λ h more none is. closed_new graph marks suspects part asked all way all_are fresh fresh_are found found_are part_new asked_new (subst (λ (l : List Item). Gets (Contains l) part part_new) c.items-5.ensures.items h) joined
-    (subst (λ (l : List Item). IsWithin l part) c.items-5.ensures.items (none is))) c.put_copies.ensures.members c.put_copies.ensures.there
+    let gets : Gets (Contains found) part part_new = subst (λ (l : List Item). Gets (Contains l) part part_new) c.items-5.ensures.items c.in_ok-grew.ensures.members in
+    let closed : ((y : Item) → Contains found y → Tells y → Contains part y) → IsClosed graph marks suspects part_new = closed_new graph marks suspects part asked all way all_are fresh fresh_are found found_are part_new asked_new gets joined in
+    elim c.if-grew.branch [
+      | then-grew w ↦ λ no. closed (λ y f told. absurd (subst (λ (l : List Item). (z : Item) → Contains l z → Tells z → ⊥) w.items-then-grew.ensures.items (w.any_tells.ensures (sym w.result-is ∙ no)) y f told))
+      | else-grew w ↦ λ _. closed (λ y f _. subst (λ (l : List Item). IsWithin l part) c.items-5.ensures.items (c.in_ok-grew.ensures.there w.if-grew.false) y f)
+    ]
+
+pub returns-in_err-grew-clause-few : goal.returns-in_err-grew-clause-few
+returns-in_err-grew-clause-few g c =
+    let graph = c.args.board.now in
+    let marks = c.args.marks.now.keys in
+    let suspects = c.args.suspects.now.items in
+    let part = c.args.part.now.items in
+    let asked = c.args.asked.now.items in
+    let way = c.requires.way in
+    let all = c.in_ok-keys.keys.items in
+    let all_are : (k : Item) → Contains all k ↔ IsAskedBy part suspects k = subst (λ (l : List Item). (k : Item) → Contains all k ↔ IsAskedBy part l k) c.items.ensures.items c.in_ok-keys.ensures in
+    let fresh = c.take_out_all.new.self.items in
+    let fresh_are : IsWithout all asked fresh = subst (λ (l : List Item). IsWithout all l fresh) c.items-2.ensures.items c.take_out_all.ensures.members in
+    let ticks : c.items_under.new.steps ≤ c.args.steps.now + sum_by (look_ups graph) fresh = subst (λ (l : List Item). c.items_under.new.steps ≤ c.args.steps.now + sum_by (look_ups graph) l) c.items-3.ensures.items c.items_under.ensures.ticks in
+    λ p keys least closed has. omega (arith, ticks, cost_within graph marks suspects part asked all way all_are fresh fresh_are way.asked_order c.take_out_all.ensures.order p keys least closed has)
 
 pub returns-clause-least : goal.returns-clause-least
 returns-clause-least g c =
@@ -170,8 +187,7 @@ returns-clause-least g c =
     let part_new = c.put_copies.new.part.items in
     let asked_new = c.put_in_all.new.self.items in
     let joined : IsJoined asked fresh asked_new = subst (λ (l : List Item). IsJoined l fresh asked_new) c.reserve.ensures.items (subst (λ (l : List Item). IsJoined c.reserve.new.self.items l asked_new) c.into_items.ensures.items c.put_in_all.ensures.members) in
-    on_ok (Gets (Contains c.items-5.result.now) part part_new) (IsLeast graph marks suspects part → IsLeast graph marks suspects part_new) c.put_copies.result
-    (λ h. least_new graph marks suspects part asked all way all_are fresh fresh_are found found_are part_new asked_new (subst (λ (l : List Item). Gets (Contains l) part part_new) c.items-5.ensures.items h) joined) c.put_copies.ensures.members
+    least_new graph marks suspects part asked all way all_are fresh fresh_are found found_are part_new asked_new (subst (λ (l : List Item). Gets (Contains l) part part_new) c.items-5.ensures.items c.in_ok-grew.ensures.members) joined
 
 pub returns-clause-spent : goal.returns-clause-spent
 returns-clause-spent g c =
@@ -192,7 +208,7 @@ returns-clause-spent g c =
     let sums : sum_by (look_ups graph) asked + sum_by (look_ups graph) fresh ≤ sum_by (look_ups graph) asked_new =
     sums_within graph marks suspects part asked all way all_are fresh fresh_are way.asked_order c.take_out_all.ensures.order asked_new (λ k h. (joined k).1 (inl h)) (λ k h. (joined k).1 (inr h)) in
     let spent : c.items_under.new.steps + sum_by (look_ups graph) asked ≤ c.args.steps.now + sum_by (look_ups graph) asked_new = omega (arith, ticks, sums) in
-    on_ok (Gets (Contains c.items-5.result.now) part part_new) (c.items_under.new.steps + sum_by (look_ups graph) asked ≤ c.args.steps.now + sum_by (look_ups graph) asked_new) c.put_copies.result (λ h. spent) c.put_copies.ensures.members
+    spent
 
 pub returns-clause-few : goal.returns-clause-few
 returns-clause-few g c =
