@@ -132,19 +132,23 @@ module _ (l m : List Item) (within : (y : Item) → Contains l y → Tells y →
   seeks_more : (x : Item) (a : Auth) → Seeks l x a → Seeks m x a
   seeks_more x a is = (actor_more x a is.0, elim is.1 [ inl needs ↦ inl (needs.0, need_more x needs.0 needs.1) | inr grants ↦ inr grants ])
 
-  asks_more : (x : Item) (t : Topic) → Asks l x t → Asks m x t
-  asks_more x t (by_name e) = by_name e
-  asks_more x t (by_far e) = by_far e
-  asks_more x t (by_option e) = by_option e
-  asks_more x t (of_need need needed e) = of_need need (need_more x need needed) e
-  asks_more x t (of_supply need a g needed acts way e) = of_supply need a g (need_more x need needed) (actor_more x a acts) (reach_more a g way) e
-  asks_more x t (of_edges a name seeks way e) = of_edges a name (seeks_more x a seeks) (reach_more a (Named name) way) e
-  asks_more x t (of_admins a role name grants acts way e) = of_admins a role name grants (actor_more x a acts) (reach_more a (Named name) way) e
+  pub asks_told : (x : Item) (t : Topic) → Asks l x t → Asks m x t
+  asks_told x t (by_name e) = by_name e
+  asks_told x t (by_far e) = by_far e
+  asks_told x t (by_option e) = by_option e
+  asks_told x t (of_need need needed e) = of_need need (need_more x need needed) e
+  asks_told x t (of_supply need a g needed acts way e) = of_supply need a g (need_more x need needed) (actor_more x a acts) (reach_more a g way) e
+  asks_told x t (of_edges a name seeks way e) = of_edges a name (seeks_more x a seeks) (reach_more a (Named name) way) e
+  asks_told x t (of_admins a role name grants acts way e) = of_admins a role name grants (actor_more x a acts) (reach_more a (Named name) way) e
 
   pub asked_by_told : (suspects : List Item) (k : Item) → IsAskedBy l suspects k → IsAskedBy m suspects k
-  asked_by_told suspects k h = (h.0, h.1, (h.2.0, (asks_more h.0 h.2.0 h.2.1.0, h.2.1.1), h.2.2))
+  asked_by_told suspects k h = (h.0, h.1, (h.2.0, (asks_told h.0 h.2.0 h.2.1.0, h.2.1.1), h.2.2))
 
 -- so over a longer part
+
+pub asks_more : (l m : List Item) (within : IsWithin l m) (x : Item) (t : Topic) → Asks l x t → Asks m x t
+asks_more l m within x t asks = asks_told l m (λ y c _. within y c) x t asks
+
 pub asked_by_more : (l m : List Item) (within : IsWithin l m) (suspects : List Item) (k : Item) → IsAskedBy l suspects k → IsAskedBy m suspects k
 asked_by_more l m within suspects k h = asked_by_told l m (λ y c _. within y c) suspects k h
 
