@@ -1,4 +1,7 @@
 mod Backward
+mod Counting
+pub mod Following
 mod Forward
 mod Going
 mod Settling
+mod Still

@@ -1,6 +1,6 @@
 -- What can't fail to hold does hold, of a change that can be made; and room changes nothing of a plan.
 use Rattle.std.proofs.Common.{◌≡◌, ℕ, ◌+◌, ◌-◌, ◌≤◌, Bool, true, false, List, [], ◌∷◌, get_or, Option, Some, None, slice_get, sym, ◌∙◌, ap, refl, inl, inr, arith}
-use Rattle.std.proofs.lemmas.Bool.{cases_lt}
+use Rattle.std.proofs.lemmas.Bool.{cases_eq, cases_lt}
 use Rattle.item_index.specs.Graphs.{Graph, IsNode, inserted, inserted_at, link_count, next_number, node_of, removed, with_spare}
 use Rattle.item_index.specs.Undo.{HaveKeys, inserted_all, numbers_given, removed_all}
 use Rattle.graph_steps.specs.Steps.{AreNewKeys}
@@ -19,6 +19,9 @@ sure_true false sure = absurd (sure (λ e. never e))
   where
     never : false ≡ true → ⊥
     never e = cc
+
+pub sure_eq : (m n : ℕ) → ¬ (¬ (m ≡ n)) → m ≡ n
+sure_eq m n sure = elim (cases_eq m n) [ inl same ↦ same | inr other ↦ absurd (sure other) ]
 
 pub sure_le : (m n : ℕ) → ¬ (¬ (m ≤ n)) → m ≤ n
 sure_le m n sure = elim (cases_lt n m) [ inl below ↦ absurd (sure (λ h. omega (arith, below, h))) | inr not ↦ omega (arith, not) ]

@@ -11,6 +11,7 @@ use Rattle.board_steps.specs.Plans.{HasNoHelper, IsFullBoard, IsPlanOf, TellsApa
 use Rattle.board_plans.specs.declared.plan.Plan.{Plan}
 use Rattle.board_changes.specs.declared.readiness.Ran.{Ran}
 use Rattle.board_changes.specs.declared.readiness.Ready.{Ready}
+use Rattle.board_changes.specs.Left.{IsAsLeft}
 
 module _ (eq : Item → Item → Bool) where
   -- The plan makes of the board of c that of the new catalogue, where what is no suspect is alike.
@@ -48,3 +49,7 @@ module _ (eq : Item → Item → Bool) where
     pub given : ran.out.items ≡ reverse (numbers_given (removed_all before out) keys)
     pub keys_are : ran.keys.items ≡ reverse old
     pub taken : (links : List (ℕ × ℕ)) → AreLinks before links → IsPermutation (filter (touches out) links) ran.links.items
+
+  -- the same where the graph isn't just what the change made, but is as that was left
+  abbrev pub StillTakesBack : Graph Item → Graph Item → Ran → Type 0
+  StillTakesBack before now ran = (after : Graph Item) × TakesBack before after ran × IsAsLeft after now

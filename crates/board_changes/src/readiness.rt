@@ -44,6 +44,7 @@ pub fn make_ready<L: Ledger>(
     requires planned { ∥ ((c : List Item) × (new : List Item) × (suspect : Item → Bool) × IsPlanned same.ghosts.eq board.old c new suspect plan) ∥₁ }
     requires placed { All (ArePlaced (length plan.keys.items)) plan.links.items }
     ensures board { board.new ≡ with_spare board.old board.new.spare_keys board.new.spare_links }
+    ensures grown { (board.old.spare_keys ≤ board.new.spare_keys) × (board.old.spare_links ≤ board.new.spare_links) }
     ensures ready { IfOk result (λ ready. IsReady same.ghosts.eq board.new ready) }
     ensures plan { IfOk result (λ ready. ready.plan ≡ plan) }
     ensures planned { IfOk result (λ ready. (c new : List Item) (suspect : Item → Bool) → IsPlanned same.ghosts.eq board.old c new suspect plan → IsPlanned same.ghosts.eq board.new c new suspect ready.plan) }

@@ -7,7 +7,8 @@ ghost use Rattle.cat_items.specs.declared.item.Item.{Item};
 ghost use Rattle.cat_items.specs.contracts.item.ItemPartialEq.TheImpl as same;
 ghost use Rattle.graph_changes.specs.Ends.{links_of};
 ghost use Rattle.board_steps.specs.Plans.{IsFullBoard};
-ghost use Rattle.board_changes.specs.Readiness.{IsPlanned, IsReady, TakesBack};
+ghost use Rattle.board_changes.specs.Left.{IsAsLeft};
+ghost use Rattle.board_changes.specs.Readiness.{IsPlanned, IsReady, StillTakesBack, TakesBack};
 
 use crate::readiness::{Ran, Ready};
 use board_plans::Plan;
@@ -39,14 +40,16 @@ pub fn run(board: &mut Index<Item>, ready: Ready) -> Ran
     }
 }
 
-/// Takes a plan back that was carried out: each number has the key that it had, and the same links in whatever order, and
-/// the board is that of the old catalogue again. No memory, and no look-up.
+/// Takes a plan back that was carried out, where the board is as that left it: each number has the key that it had, and the same links in whatever
+/// order, and the board is that of the old catalogue again. No memory, and no look-up.
 pub fn take_back(board: &mut Index<Item>, ran: Ran)
-    requires { ∥ ((before : Graph Item) × TakesBack same.ghosts.eq before board.old ran) ∥₁ }
+    requires { ∥ ((before : Graph Item) × StillTakesBack same.ghosts.eq before board.old ran) ∥₁ }
+    ensures left { (before : Graph Item) → StillTakesBack same.ghosts.eq before board.old ran → IsAsLeft before board.new }
     ensures before { (before : Graph Item) → TakesBack same.ghosts.eq before board.old ran → (links : List (ℕ × ℕ)) → AreLinks before links → IsAsBefore before board.new links }
-    ensures board { (before : Graph Item) → TakesBack same.ghosts.eq before board.old ran → (c : List Item) → IsFullBoard before c → IsFullBoard board.new c }
+    ensures board { (before : Graph Item) → StillTakesBack same.ghosts.eq before board.old ran → (c : List Item) → IsFullBoard before c → IsFullBoard board.new c }
 {
     a_change_can_be_undone::<Item>();
+    board.keeps_whole();
     let Ran { out, keys, links } = ran;
     change(board, out.as_slice(), keys, links.as_slice());
 }

@@ -8,6 +8,7 @@ use Rattle.cat_items.specs.Catalogues.{IsInOrder}
 use Rattle.cat_items.specs.Edits.{IsNew}
 use Rattle.catalogue_changes.specs.Effects.{AreEffects}
 use Rattle.board_steps.specs.Plans.{HasNoHelper, IsFullBoard}
+use Rattle.board_changes.specs.Left.{IsAsLeft}
 use Rattle.board_changes.specs.Readiness.{IsPlanned, IsReady, TakesBack}
 use Rattle.revoke_cascade.specs.declared.cascade.Cascade.{Cascade}
 use Rattle.revoke_cascade.specs.declared.cascade.Taken.{Taken}
@@ -33,3 +34,7 @@ pub record IsCascade (g : Graph Item) (c : List Item) (edit : Edit) (new : List 
 pub record IsTaken (before : Graph Item) (c : List Item) (after : Graph Item) (taken : Taken) : Type 0 where
   pub old : IsBoardOf before c
   pub back : TakesBack same.ghosts.eq before after taken.back
+
+-- the same where the board isn't just what the run made, but is as that was left
+abbrev pub IsStillTaken : Graph Item → List Item → Graph Item → Taken → Type 0
+IsStillTaken before c now taken = (after : Graph Item) × IsTaken before c after taken × IsAsLeft after now

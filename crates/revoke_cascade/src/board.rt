@@ -9,9 +9,10 @@ ghost use Rattle.cat_items.specs.Catalogues.{IsInOrder};
 ghost use Rattle.cat_items.specs.Fit.{IsFit};
 ghost use Rattle.cat_items.specs.Good.{IsGood};
 ghost use Rattle.board_graph.specs.Boards.{Holds};
+ghost use Rattle.board_changes.specs.Left.{IsAsLeft};
 ghost use Rattle.board_changes.specs.Readiness.{IsPlanned, IsReady, TakesBack};
 ghost use Rattle.board_steps.specs.Plans.{IsFullBoard};
-ghost use Rattle.revoke_cascade.specs.Boards.{IsBoardOf, IsTaken, adds};
+ghost use Rattle.revoke_cascade.specs.Boards.{IsBoardOf, IsStillTaken, IsTaken, adds};
 ghost use Rattle.revoke_cascade.specs.Prepared.{IsMeasured, IsOutcome};
 
 use crate::cascade::Taken;
@@ -106,6 +107,7 @@ impl Board {
     ) -> Result<Prepared, AllocError>
         requires { (c edited : List Item) × IsGood c × Holds self.old c × IsFit c edit.now edited }
         ensures board { self.new ≡ with_spare self.old self.new.spare_keys self.new.spare_links }
+        ensures grown { (self.old.spare_keys ≤ self.new.spare_keys) × (self.old.spare_links ≤ self.new.spare_links) }
         ensures ready { IfOk result (λ prepared. IsReady same.ghosts.eq self.new prepared.ready) }
         ensures outcome { IfOk result (λ prepared. (c edited : List Item) → IsGood c → Holds self.old c → IsFit c edit.now edited → (new : List Item) × IsOutcome self.new c edit.now new prepared.ready.plan prepared.suspects.items prepared.found.items) }
         ensures few { (c edited : List Item) (bound : ℕ) → IsGood c → Holds self.old c → IsFit c edit.now edited → IsMeasured c edited edit.now bound → steps.new ≤ steps.old + bound }
@@ -124,11 +126,12 @@ impl Board {
         run(&mut self.index, ready)
     }
 
-    /// Takes a run back: the board then is what it was before that run, with each number its key, and the same links in whatever order. No
-    /// memory, and no look-up.
+    /// Takes a run back, where the board is as that run left it: `prepare` may have made room since, and later runs may have been taken back. The board
+    /// then is what it was before that run, with each number its key, and the same links in whatever order. No memory, and no look-up.
     pub fn take_back(&mut self, taken: Taken)
-        requires { (before : Graph Item) × (c : List Item) × IsTaken before c self.old taken }
-        ensures held { (before : Graph Item) (c : List Item) → IsTaken before c self.old taken → Holds self.new c }
+        requires { (before : Graph Item) × (c : List Item) × IsStillTaken before c self.old taken }
+        ensures held { (before : Graph Item) (c : List Item) → IsStillTaken before c self.old taken → Holds self.new c }
+        ensures left { (before : Graph Item) (c : List Item) → IsStillTaken before c self.old taken → IsAsLeft before self.new }
         ensures before { (before : Graph Item) (c : List Item) → IsTaken before c self.old taken → (links : List (ℕ × ℕ)) → AreLinks before links → IsAsBefore before self.new links }
     {
         let Taken { back, .. } = taken;

@@ -49,6 +49,7 @@ impl Cascade {
         requires held { Holds board.old c.now.items }
         requires fit { (edited : List Item) × IsFit c.now.items edit.now edited }
         ensures board { board.new ≡ with_spare board.old board.new.spare_keys board.new.spare_links }
+        ensures grown { (board.old.spare_keys ≤ board.new.spare_keys) × (board.old.spare_links ≤ board.new.spare_links) }
         ensures held { Holds board.new c.now.items }
         ensures cascade { IfOk result (λ cascade. (new : List Item) × IsCascade board.new c.now.items edit.now new cascade) }
         ensures few { (edited : List Item) (bound : ℕ) (b : IsBound c.now.items edit.now edited bound) → IsFit c.now.items edit.now edited → MissesNothing b.u edited edit.now → steps.new ≤ steps.old + bound }

@@ -1,7 +1,8 @@
 //! Each law stands in the contract of a function that does nothing.
 
-ghost use Rattle.std.specs.Prelude.{◌≡◌, ℕ, List, Bool};
-ghost use Rattle.item_index.specs.Graphs.{Graph, IsWhole};
+ghost use Rattle.std.specs.Prelude.{◌≡◌, ◌≤◌, ℕ, List, Bool};
+ghost use Rattle.item_index.specs.Graphs.{AreLinks, Graph, IsWhole, with_spare};
+ghost use Rattle.item_index.specs.Undo.{IsAsBefore};
 ghost use Rattle.graph_steps.specs.Steps.{AreNodes};
 ghost use Rattle.graph_changes.specs.Ends.{links_of};
 ghost use Rattle.cat_items.specs.contracts.item.ItemPartialEq.TheImpl as same;
@@ -16,10 +17,13 @@ ghost use Rattle.board_steps.specs.Plans.{IsPlanOf};
 ghost use Rattle.board_plans.specs.declared.arrivals.Arrival.{Arrival};
 ghost use Rattle.board_plans.specs.declared.plan.Plan.{Plan};
 ghost use Rattle.board_plans.specs.Planning.{AreArrivals, CanPlan};
+ghost use Rattle.board_changes.specs.Left.{IsAsLeft};
 ghost use Rattle.board_changes.specs.Readiness.{IsPlanned};
 ghost use Rattle.edit_suspects.specs.Seeds.{AreTouched};
 ghost use Rattle.edit_suspects.specs.Suspects.{AreFresh, is_suspect};
 ghost use Rattle.edit_arrivals.specs.Suspects.{IsFoundBy};
+ghost use Rattle.revoke_cascade.specs.declared.cascade.Taken.{Taken};
+ghost use Rattle.revoke_cascade.specs.Boards.{IsStillTaken, IsTaken};
 ghost use Rattle.revoke_cascade.specs.Prepared.{AreJudged, AreKnown, IsEditOn, IsFoundOf};
 
 /// What an edit touches are numbers with keys.
@@ -60,4 +64,13 @@ pub fn what_is_prepared_can_be_planned()
         → (new : List Item) → IsNew c edit new → (arrivals : List Arrival) → AreArrivals new (is_suspect g marks edit.added fresh) arrivals → CanPlan same.ghosts.eq g c new (is_suspect g marks edit.added fresh) marks arrivals }
     ensures planned { (g : Graph Item) (c new : List Item) (suspect : Item → Bool) (marks : List ℕ) (arrivals : List Arrival) (plan : Plan) → CanPlan same.ghosts.eq g c new suspect marks arrivals
         → IsPlanOf g c new suspect plan.out.items plan.keys.items (links_of g plan.out.items plan.keys.items plan.links.items) → IsPlanned same.ghosts.eq g c new suspect plan }
+{}
+
+/// A run can be taken back at once (`at_once`), and still later, as long as the board is as the run left it (`later`): so it is where room was made
+/// in it (`roomier`), and where it is as before, since a later run was taken back (`as_before`).
+pub fn a_run_can_still_be_taken_back()
+    ensures at_once { (before after : Graph Item) (c : List Item) (taken : Taken) → IsTaken before c after taken → IsStillTaken before c after taken }
+    ensures later { (before was now : Graph Item) (c : List Item) (taken : Taken) → IsStillTaken before c was taken → IsAsLeft was now → IsStillTaken before c now taken }
+    ensures roomier { (g : Graph Item) (keys links : ℕ) → g.spare_keys ≤ keys → g.spare_links ≤ links → IsAsLeft g (with_spare g keys links) }
+    ensures as_before { (g back : Graph Item) (links : List (ℕ × ℕ)) → AreLinks g links → IsAsBefore g back links → IsAsLeft g back }
 {}

@@ -73,6 +73,7 @@ pub(crate) fn prepare_on<L: Ledger>(
 ) -> Result<Prepared, AllocError>
     requires { FitsSome board.old edit.now }
     ensures board { board.new ≡ with_spare board.old board.new.spare_keys board.new.spare_links }
+    ensures grown { (board.old.spare_keys ≤ board.new.spare_keys) × (board.old.spare_links ≤ board.new.spare_links) }
     ensures ready { IfOk result (λ prepared. IsReady same.ghosts.eq board.new prepared.ready) }
     ensures outcome { IfOk result (λ prepared. (c edited : List Item) → IsFitOn board.old c edited edit.now → (new : List Item) × IsOutcome board.new c edit.now new prepared.ready.plan prepared.suspects.items prepared.found.items) }
     ensures few { (c edited : List Item) (bound : ℕ) → IsFitOn board.old c edited edit.now → IsMeasured c edited edit.now bound → steps.new ≤ steps.old + bound }
