@@ -14,6 +14,7 @@ use Rattle.cat_items.specs.declared.item.RoleGrant.{RoleGrant}
 use Rattle.cat_items.specs.declared.item.Item.{Item}
 use Rattle.cat_items.specs.declared.item.Item.TheVariants as item
 use Rattle.std.specs.List.{Contains}
+use Rattle.cat_items.specs.Ranges.{IsRoleAuthorization}
 use Rattle.cat_items.specs.Reach.{GrantsRole, Has, Leads, Reaches}
 use Rattle.cat_items.specs.Relevant.{ActsInRight, HasUsage, IsActor, IsBaseColumnNeed, IsNeedOf, IsObjectNeed, IsOwnedSchema, IsRightNeed, IsViewNeed, Owns, OwnsPath}
 use Rattle.cat_items.specs.Rights.{path_of}
@@ -22,9 +23,9 @@ use Rattle.cascade_laws.specs.Concerns.{Seeks}
 use Rattle.cascade_laws.specs.Topics.{Topic, IsAuthTopic, IsColumnTopic, IsNameTopic, IsNeedTopic, IsObjectTopic, IsOptionTopic, IsOptionalDomainTopic, IsPartyTopic, IsRightTopic, IsRoleGrantTopic, IsUnder, authorization, role_named, schema, table, base_table, columns, column, domain, routine, key, supply, edges, admins, held, role_auth}
 use Rattle.board_graph.specs.Boards.{IsOwnTopic}
 use Rattle.asked_parts.specs.Parts.{IsAskedBy}
-use Rattle.asked_parts.specs.Rounds.{Tells, option_of}
+use Rattle.asked_parts.specs.Rounds.{IsGiven, IsGiver, Tells, TellsTo, option_of}
 
--- ---- over a part that has all that tells what is asked for
+-- ---- over a list that has all that tells what is asked for
 
 owned_tells : (name : List ℕ) (a : Auth) (y : Item) → IsOwnedSchema name a y → Tells y
 owned_tells name a (item.Schema z) is = tt
@@ -132,7 +133,7 @@ module _ (l m : List Item) (within : (y : Item) → Contains l y → Tells y →
   seeks_more : (x : Item) (a : Auth) → Seeks l x a → Seeks m x a
   seeks_more x a is = (actor_more x a is.0, elim is.1 [ inl needs ↦ inl (needs.0, need_more x needs.0 needs.1) | inr grants ↦ inr grants ])
 
-  pub asks_told : (x : Item) (t : Topic) → Asks l x t → Asks m x t
+  asks_told : (x : Item) (t : Topic) → Asks l x t → Asks m x t
   asks_told x t (by_name e) = by_name e
   asks_told x t (by_far e) = by_far e
   asks_told x t (by_option e) = by_option e
@@ -141,8 +142,84 @@ module _ (l m : List Item) (within : (y : Item) → Contains l y → Tells y →
   asks_told x t (of_edges a name seeks way e) = of_edges a name (seeks_more x a seeks) (reach_more a (Named name) way) e
   asks_told x t (of_admins a role name grants acts way e) = of_admins a role name grants (actor_more x a acts) (reach_more a (Named name) way) e
 
-  pub asked_by_told : (suspects : List Item) (k : Item) → IsAskedBy l suspects k → IsAskedBy m suspects k
-  asked_by_told suspects k h = (h.0, h.1, (h.2.0, (asks_told h.0 h.2.0 h.2.1.0, h.2.1.1), h.2.2))
+-- ---- what was given asks by role authorizations alone
+
+role_tells : (role grantee : List ℕ) (y : Item) → GrantsRole role grantee y → IsRoleAuthorization y
+role_tells role grantee (item.RoleAuth g) is = tt
+role_tells role grantee _ is = absurd is
+
+module _ (l m : List Item) (within : (y : Item) → Contains l y → IsRoleAuthorization y → Contains m y) where
+  leads_still : (from : List ℕ) (roles : List (List ℕ)) (to : List ℕ) → Leads l from roles to → Leads m from roles to
+  leads_still from [] to is = is
+  leads_still from (role ∷ roles) to is = ((is.0.0, within is.0.0 is.0.1 (role_tells role from is.0.0 is.0.2), is.0.2), leads_still role roles to is.1)
+
+  reach_still : (a g : Auth) → Reaches l a g → Reaches m a g
+  reach_still a Public is = is
+  reach_still (Named from) (Named to) is = (is.0, leads_still from is.0 to is.1)
+  reach_still System System is = is
+  reach_still System (Named to) is = absurd is
+  reach_still Public (Named to) is = absurd is
+  reach_still Public System is = absurd is
+  reach_still (Named from) System is = absurd is
+
+  in_right_still : (r : Right) (by a : Auth) → IsGiver by → ActsInRight l r by a → ActsInRight m r by a
+  in_right_still r System a given is = absurd given
+  in_right_still r Public a given is = is
+  in_right_still r (Named name) a given is = is
+
+  actor_still : (x : Item) (a : Auth) → IsGiven x → IsActor l x a → IsActor m x a
+  actor_still (item.RoleAuth g) a given is = is
+  actor_still (item.RoleAdmin g) a given is = is
+  actor_still (item.Held r) a given is = in_right_still r r.grantor a given is
+  actor_still (item.Grantable r) a given is = in_right_still r r.grantor a given is
+  actor_still _ a given is = absurd given
+
+  right_need_still : (r : Right) (by : Auth) (need : Need) → IsGiver by → IsRightNeed l r by need → IsRightNeed m r by need
+  right_need_still r System need given is = absurd given
+  right_need_still r Public need given is = is
+  right_need_still r (Named name) need given is = is
+
+  need_still : (x : Item) (need : Need) → IsGiven x → IsNeedOf l x need → IsNeedOf m x need
+  need_still (item.RoleAuth g) need given is = absurd is
+  need_still (item.RoleAdmin g) need given is = absurd is
+  need_still (item.Held r) need given is = right_need_still r r.grantor need given is
+  need_still (item.Grantable r) need given is = right_need_still r r.grantor need given is
+  need_still _ need given is = absurd given
+
+  seeks_still : (x : Item) (a : Auth) → IsGiven x → Seeks l x a → Seeks m x a
+  seeks_still x a given is = (actor_still x a given is.0, elim is.1 [ inl needs ↦ inl (needs.0, need_still x needs.0 given needs.1) | inr grants ↦ inr grants ])
+
+  asks_still : (x : Item) (t : Topic) → IsGiven x → Asks l x t → Asks m x t
+  asks_still x t given (by_name e) = by_name e
+  asks_still x t given (by_far e) = by_far e
+  asks_still x t given (by_option e) = by_option e
+  asks_still x t given (of_need need needed e) = of_need need (need_still x need given needed) e
+  asks_still x t given (of_supply need a g needed acts way e) = of_supply need a g (need_still x need given needed) (actor_still x a given acts) (reach_still a g way) e
+  asks_still x t given (of_edges a name seeks way e) = of_edges a name (seeks_still x a given seeks) (reach_still a (Named name) way) e
+  asks_still x t given (of_admins a role name grants acts way e) = of_admins a role name grants (actor_still x a given acts) (reach_still a (Named name) way) e
+
+giver_or_not : (a : Auth) → IsGiver a ⊎ (¬ (IsGiver a))
+giver_or_not System = inr (λ h. h)
+giver_or_not Public = inl tt
+giver_or_not (Named name) = inl tt
+
+given_or_not : (x : Item) → IsGiven x ⊎ (¬ (IsGiven x))
+given_or_not (item.Held r) = giver_or_not r.grantor
+given_or_not (item.Grantable r) = giver_or_not r.grantor
+given_or_not (item.RoleAuth g) = inl tt
+given_or_not (item.RoleAdmin g) = inl tt
+given_or_not _ = inr (λ h. h)
+
+-- ---- over a part that has all that tells to the suspects
+
+pub asked_by_told : (l m suspects : List Item) → ((x y : Item) → Contains suspects x → Contains l y → TellsTo x y → Contains m y) → (k : Item) → IsAskedBy l suspects k → IsAskedBy m suspects k
+asked_by_told l m suspects within k (x, here, (t, (asks, own_topic), keyed)) = (x, here, (t, (still, own_topic), keyed))
+  where
+    still : Asks m x t
+    still = elim (given_or_not x) [
+      | inl given ↦ asks_still l m (λ y c is. within x y here c (inl is)) x t given asks
+      | inr not ↦ asks_told l m (λ y c tells. within x y here c (inr (tells, not))) x t asks
+    ]
 
 -- so over a longer part
 
@@ -150,7 +227,7 @@ pub asks_more : (l m : List Item) (within : IsWithin l m) (x : Item) (t : Topic)
 asks_more l m within x t asks = asks_told l m (λ y c _. within y c) x t asks
 
 pub asked_by_more : (l m : List Item) (within : IsWithin l m) (suspects : List Item) (k : Item) → IsAskedBy l suspects k → IsAskedBy m suspects k
-asked_by_more l m within suspects k h = asked_by_told l m (λ y c _. within y c) suspects k h
+asked_by_more l m within suspects k h = asked_by_told l m suspects (λ x y _ c _. within y c) k h
 
 -- ---- topics that have keys of their own
 

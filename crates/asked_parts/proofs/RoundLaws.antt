@@ -18,7 +18,7 @@ use Rattle.board_graph.specs.BoardKeys.{IsHelper}
 use Rattle.board_graph.proofs.Keys.{topic_is_helper}
 use Rattle.topic_keys.specs.Lists.{Gets}
 use Rattle.asked_parts.specs.Parts.{HasAsked, IsAskedBy}
-use Rattle.asked_parts.specs.Rounds.{IsBegun, IsClosed, IsLeast, IsUnderWay, Tells}
+use Rattle.asked_parts.specs.Rounds.{IsBegun, IsClosed, IsLeast, IsUnderWay, TellsTo}
 use Rattle.asked_parts.specs.Under.{AreApart, IsUnderAny, IsUnderKey, IsUnmarked, look_ups}
 use Rattle.asked_parts.proofs.AskLaws.{asked_by_more, asked_by_told}
 use Rattle.asked_parts.proofs.GrowthLaws.{IsOnce, no_more, once, once_append}
@@ -114,11 +114,11 @@ module _ (g : Graph Item) (marks : List ℕ) (suspects part asked all : List Ite
         }
 
         -- where others ask by nothing that was found and is new, the part has all
-        pub closed_new : ((y : Item) → Contains found y → Tells y → Contains part y) → IsClosed g marks suspects part_new
-        closed_new none = record { begun = begun_new; asked = λ k y h under. found_new k y (known k (asked_by_told part_new part back suspects k h)) under }
+        pub closed_new : ((x y : Item) → Contains suspects x → Contains found y → TellsTo x y → Contains part y) → IsClosed g marks suspects part_new
+        closed_new none = record { begun = begun_new; asked = λ k y h under. found_new k y (known k (asked_by_told part_new part suspects back k h)) under }
           where
-            back : (y : Item) → Contains part_new y → Tells y → Contains part y
-            back y h tells = elim ((gets y).0 h) [ inl old ↦ old | inr f ↦ none y f tells ]
+            back : (x y : Item) → Contains suspects x → Contains part_new y → TellsTo x y → Contains part y
+            back x y here h tells = elim ((gets y).0 h) [ inl old ↦ old | inr f ↦ none x y here f tells ]
 
             known : (k : Item) → IsAskedBy part suspects k → Contains asked_new k
             known k h = elim (there_or_not asked k (asked_is_granted part suspects k h)) [

@@ -3,9 +3,12 @@ use Rattle.std.specs.Prelude.{◌≡◌, ◌↔◌, ◌⊎◌, ℕ, List, Option
 use Rattle.std.specs.List.{Contains}
 use Rattle.finite_chains.specs.Chains.{IsWithin}
 use Rattle.item_index.specs.Graphs.{Graph}
+use Rattle.cat_items.specs.declared.need.Auth.{Auth}
+use Rattle.cat_items.specs.declared.need.Auth.TheVariants.{System}
 use Rattle.cat_items.specs.declared.item.Item.{Item}
 use Rattle.cat_items.specs.declared.item.Item.TheVariants as item
 use Rattle.cat_items.specs.Catalogues.{IsInOrder}
+use Rattle.cat_items.specs.Ranges.{IsRoleAuthorization}
 use Rattle.asked_parts.specs.Parts.{IsAskedBy}
 use Rattle.asked_parts.specs.Under.{IsUnmarked, IsUnderKey}
 
@@ -55,6 +58,19 @@ pub record HasAskedAll (g : Graph Item) (marks : List ℕ) (suspects part asked 
 abbrev pub WasAsked : Graph Item → List ℕ → List Item → List Item → List Item → List Item → Type 0
 WasAsked g marks suspects more part asked = (before : List Item) × HasAskedAll g marks before part asked × ((x : Item) → Contains suspects x ↔ (Contains before x ⊎ Contains more x))
 
+-- a user, a role or PUBLIC, and not the system
+abbrev pub IsGiver : Auth → Type 0
+IsGiver System = ⊥
+IsGiver a = Unit {0}
+
+-- A right or a role authorization that a user or role gave: it asks by its own words, and by the roles of who gave it.
+abbrev pub IsGiven : Item → Type 0
+IsGiven (item.Held r) = IsGiver r.grantor
+IsGiven (item.Grantable r) = IsGiver r.grantor
+IsGiven (item.RoleAuth g) = Unit {0}
+IsGiven (item.RoleAdmin g) = Unit {0}
+IsGiven x = ⊥
+
 -- Others ask by the item: by a schema for its owner, by a view, a routine or a column for what it needs, and by a role authorization for the role.
 abbrev pub Tells : Item → Type 0
 Tells (item.Schema z) = Unit {0}
@@ -63,3 +79,7 @@ Tells (item.Column c) = Unit {0}
 Tells (item.Routine r) = Unit {0}
 Tells (item.RoleAuth g) = Unit {0}
 Tells x = ⊥
+
+-- an item may ask by the other one
+abbrev pub TellsTo : Item → Item → Type 0
+TellsTo x y = IsRoleAuthorization y ⊎ (Tells y × (¬ (IsGiven x)))

@@ -12,7 +12,7 @@ ghost use Rattle.asked_parts.specs.Under.{AreApart, look_ups};
 use crate::asking::asked_by;
 use crate::beginning::begun;
 use crate::growing::put_copies;
-use crate::telling::any_tells;
+use crate::telling::ask_again;
 use crate::under::items_under;
 use cat_items::{Catalogue, Item};
 use indexmap::IndexSet;
@@ -47,7 +47,7 @@ fn round<S: BuildHasher + Drop, L: Ledger>(
     asked.reserve(keys.items().len())?;
     asked.put_in_all(keys.into_items());
     let grew = put_copies(part, found.items())?;
-    Ok(grew && any_tells(found.items()))
+    Ok(grew && ask_again(suspects.items(), found.items()))
 }
 
 /// Puts in more suspects, and all that the suspects ask for and that wasn't asked for yet: `suspects` are all of them. It looks up what the

@@ -7,7 +7,7 @@ use Rattle.cat_items.specs.Catalogues.{IsInOrder}
 use Rattle.board_graph.specs.BoardKeys.{IsHelper}
 use Rattle.topic_keys.specs.Lists.{Gets}
 use Rattle.asked_parts.specs.Parts.{IsAskedBy}
-use Rattle.asked_parts.specs.Rounds.{IsClosed, Tells}
+use Rattle.asked_parts.specs.Rounds.{IsClosed, TellsTo}
 use Rattle.asked_parts.specs.Under.{IsUnderAny, look_ups}
 use Rattle.asked_parts.proofs.RoundLaws.{asked_within, closed_new, cost_within, found_apart, fresh_apart, fresh_is_helper, least_new, sums_within, way_new}
 use Rattle.asked_parts.proofs.AskLaws.{asked_by_more}
@@ -149,10 +149,11 @@ returns-clause-closed g c =
     let asked_new = c.put_in_all.new.self.items in
     let joined : IsJoined asked fresh asked_new = subst (λ (l : List Item). IsJoined l fresh asked_new) c.reserve.ensures.items (subst (λ (l : List Item). IsJoined c.reserve.new.self.items l asked_new) c.into_items.ensures.items c.put_in_all.ensures.members) in
     let gets : Gets (Contains found) part part_new = subst (λ (l : List Item). Gets (Contains l) part part_new) c.items-5.ensures.items c.in_ok-grew.ensures.members in
-    let closed : ((y : Item) → Contains found y → Tells y → Contains part y) → IsClosed graph marks suspects part_new = closed_new graph marks suspects part asked all way all_are fresh fresh_are found found_are part_new asked_new gets joined in
+    let closed : ((x y : Item) → Contains suspects x → Contains found y → TellsTo x y → Contains part y) → IsClosed graph marks suspects part_new = closed_new graph marks suspects part asked all way all_are fresh fresh_are found found_are part_new asked_new gets joined in
     elim c.if-grew.branch [
-      | then-grew w ↦ λ no. closed (λ y f told. absurd (subst (λ (l : List Item). (z : Item) → Contains l z → Tells z → ⊥) w.items-then-grew.ensures.items (w.any_tells.ensures (sym w.result-is ∙ no)) y f told))
-      | else-grew w ↦ λ _. closed (λ y f _. subst (λ (l : List Item). IsWithin l part) c.items-5.ensures.items (c.in_ok-grew.ensures.there w.if-grew.false) y f)
+      | then-grew w ↦ λ no. closed (λ x y here f told. absurd (w.ask_again.ensures (sym w.result-is ∙ no) x y (subst (λ (l : List Item). Contains l x) (sym w.items-then-grew.ensures.items) here)
+          (subst (λ (l : List Item). Contains l y) (sym w.items-then-grew-2.ensures.items) f) told))
+      | else-grew w ↦ λ _. closed (λ x y _ f _. subst (λ (l : List Item). IsWithin l part) c.items-5.ensures.items (c.in_ok-grew.ensures.there w.if-grew.false) y f)
     ]
 
 pub returns-in_err-grew-clause-few : goal.returns-in_err-grew-clause-few
