@@ -21,20 +21,20 @@ use std::sync::Arc;
 /// Its bytes are shared, so a copy is a reference count. Order, equality and hash go by the bytes.
 #[derive(Drop)]
 pub struct Name {
-    bytes: Arc<Vec<u8>>,
+    text: Arc<String>,
 }
 
 const _: () = prove!(size_of::<Name>() == 8);
 
 impl Model for Name {
-    ghost use Rattle.std.specs.Prelude.{List, ℕ};
+    ghost use Rattle.std.specs.Prelude.{List, ℕ, string_bytes};
     ghost use Rattle.sql_names.specs.Names.{IsName};
 
     ghost Value = { List ℕ };
 
-    ghost view = { λ n. n.bytes.value.items };
+    ghost view = { λ n. string_bytes n.text.value };
 
-    ghost invariant = { λ n. IsName n.bytes.value.items };
+    ghost invariant = { λ n. IsName (string_bytes n.text.value) };
 }
 
 impl Name {
@@ -50,9 +50,9 @@ impl Name {
             return Ok(None);
         }
         match str::from_utf8(bytes) {
-            Ok(_) => {
-                let bytes = Arc::new(alloc, bytes.to_vec(alloc)?)?;
-                Ok(Some(Name { bytes }))
+            Ok(text) => {
+                let text = Arc::new(alloc, String::from_str(alloc, text)?)?;
+                Ok(Some(Name { text }))
             }
             Err(_) => Ok(None),
         }
@@ -63,22 +63,22 @@ impl Name {
         ensures bytes { result.now ≡ self.now }
         ensures valid { IsName result.now }
     {
-        self.bytes.as_slice()
+        self.text.as_bytes()
     }
 
     /// Whether the two have the same bytes, as `==` says.
     pub fn same(&self, other: &Name) -> bool
         ensures { IsTrue result ↔ (self.now ≡ other.now) }
     {
-        self.bytes() == other.bytes()
+        self.text.as_str() == other.text.as_str()
     }
 
     /// An equal name, which shares the bytes. It takes no memory; `Err` is the end of the count of owners.
     pub fn copy(&self) -> Result<Name, AllocError>
         ensures { IfOk result (λ n. n ≡ self.now) }
     {
-        let bytes = Arc::try_clone(&self.bytes)?;
-        Ok(Name { bytes })
+        let text = Arc::try_clone(&self.text)?;
+        Ok(Name { text })
     }
 }
 
@@ -88,7 +88,7 @@ impl PartialEq for Name {
     ghost laws = { Prim.search (comparing, rules) };
 
     fn eq(&self, other: &Name) -> bool {
-        self.bytes.as_slice().cmp(other.bytes.as_slice()).is_eq()
+        self.cmp(other).is_eq()
     }
 }
 
@@ -116,7 +116,7 @@ impl Ord for Name {
     ghost matches_eq = { Prim.search (comparing, rules) };
 
     fn cmp(&self, other: &Name) -> Ordering {
-        self.bytes.as_slice().cmp(other.bytes.as_slice())
+        self.text.as_str().cmp(other.text.as_str())
     }
 }
 
@@ -126,7 +126,7 @@ impl Hash for Name {
     ghost respects_eq = { (same_Alike hashes.str name_eq-Decides).fed };
 
     fn hash<H: Hasher>(&self, state: &mut H) {
-        state.write(self.bytes.as_slice());
+        state.write(self.bytes());
         state.write_u8(0xFF);
     }
 }
