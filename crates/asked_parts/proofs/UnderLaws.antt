@@ -38,14 +38,6 @@ pub on_ok : {T E : Type 0} (A B : Type 0) (result : Result T E) → (A → B) �
 on_ok A B (Ok x) f a = f a
 on_ok A B (Err e) f a = a
 
-pub on_ok_both : {T E : Type 0} (A B C : Type 0) (result : Result T E) → (A → B → C) → OnOk result A → OnOk result B → OnOk result C
-on_ok_both A B C (Ok x) f a b = f a b
-on_ok_both A B C (Err e) f a b = a
-
-pub if_ok_also : {T E : Type 0} (A : Type 0) (P Q : T → Type 0) (result : Result T E) → (A → (x : T) → P x → Q x) → OnOk result A → IfOk result P → IfOk result Q
-if_ok_also A P Q (Ok x) f a p = f a x p
-if_ok_also A P Q (Err e) f a p = p
-
 pub refused : (b : Bool) (P : Type 0) → IsTrue b ↔ P → b ≡ false → P → ⊥
 refused b P same out h = let yes : b ≡ true = same.1 h in cc
 

@@ -1,7 +1,9 @@
 -- What goes out: first what is no topic, then the topics that are spent by that.
-use Rattle.std.proofs.Common.{◌≡◌, ◌&&◌, ◌+◌, ◌≤◌, ℕ, Bool, true, false, cond, nat_eq, List, [], ◌∷◌, filter, length, inl, inr, refl, sym, ◌∙◌, ap, subst, arith}
+use Rattle.std.proofs.Common.{◌≡◌, ◌&&◌, ◌+◌, ◌≤◌, ℕ, Bool, true, false, cond, nat_eq, List, [], ◌∷◌, filter, length, reverse, inl, inr, refl, sym, ◌∙◌, ap, subst, arith}
 use Rattle.std.specs.List.{Contains, count_by, list_all, sum_by}
 use Rattle.std.proofs.lemmas.Bool.{cases_Bool}
+use Rattle.std.proofs.lemmas.List.{reverse-append, reverse-reverse}
+use Rattle.std.proofs.lemmas.List.Sorted.{Contains-permutation, IsPermutation-reverse}
 use Rattle.std.proofs.lemmas.List.Sums.{sum_by-cons}
 use Rattle.finite_chains.proofs.Members.{Contains-cases, Contains-filter, Contains-nil, filter_passes_one}
 use Rattle.item_index.specs.Graphs.{Graph}
@@ -12,7 +14,7 @@ use Rattle.indexmap.specs.IndexSet.{insert_all}
 use Rattle.board_plans.specs.Leaving.{AreOutgoing, goes, is_item_at, is_spent, is_topic_at, look_ups}
 use Rattle.board_plans.specs.Spent.{has_no_other, is_among, links_cost}
 use Rattle.board_plans.proofs.Inserted.{inserted_apart, inserted_of, is_there, of_inserted, told_there}
-use Rattle.board_plans.proofs.Members.{Apart, pairs_of_apart}
+use Rattle.board_plans.proofs.Members.{Apart, apart_append, apart_of_pairs, pairs_of_apart}
 
 -- ---- tests
 
@@ -125,6 +127,26 @@ module _ (g : Graph Item) (touched items topics : List ℕ) (items_are : items �
 
   pub all_cost : length touched + sum_by (links_cost (is_among items) g) topics ≡ sum_by (look_ups g touched) touched
   all_cost = ap (λ (ns : List ℕ). length touched + sum_by (links_cost (is_among items) g) ns) topics_are ∙ costs touched
+
+-- ---- in the other order
+
+of_reverse : {X : Type 0} (xs : List X) (z : X) → Contains (reverse xs) z → Contains xs z
+of_reverse xs z h = subst (λ ys. Contains ys z) (reverse-reverse xs) (Contains-permutation (reverse xs) (reverse (reverse xs)) z (IsPermutation-reverse (reverse xs)) h)
+
+apart_reverse : {X : Type 0} (xs : List X) → Apart xs → Apart (reverse xs)
+apart_reverse [] apart = tt
+apart_reverse (x ∷ xs) apart =
+    subst Apart (sym (reverse-append (x ∷ []) xs))
+    (apart_append (reverse xs) (x ∷ []) (apart_reverse xs apart.1) ((λ h. Contains-nil x h), tt) (λ z there here. elim (Contains-cases x [] z here) [
+      | inl e ↦ apart.0 (subst (Contains xs) (sym e) (of_reverse xs z there))
+      | inr none ↦ Contains-nil z none
+    ]))
+
+pub go_backwards : (g : Graph Item) (touched out : List ℕ) → AreOutgoing g touched out → AreOutgoing g touched (reverse out)
+go_backwards g touched out are = record {
+  exactly = λ n. (λ h. (are.exactly n).0 (of_reverse out n h), λ is. Contains-permutation out (reverse out) n (IsPermutation-reverse out) ((are.exactly n).1 is));
+  once = pairs_of_apart (reverse out) (apart_reverse out (apart_of_pairs out are.once));
+}
 
 -- the key of each is the least
 pub at_least : (g : Graph Item) (touched : List ℕ) → length touched ≤ sum_by (look_ups g touched) touched

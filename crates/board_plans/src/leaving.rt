@@ -67,7 +67,7 @@ fn put_all(numbers: &mut IndexSet<usize>, others: &[usize]) -> Result<(), AllocE
 }
 
 /// Of the touched numbers those whose keys are no topics', and those of the topics that are linked with nothing else, each
-/// once. It looks up the key of each, and of a topic the numbers that it is linked with, no further than to the first that
+/// once: topics first, and then the last that was touched, as links that came last are taken away soonest. It looks up the key of each, and of a topic the numbers that it is linked with, no further than to the first that
 /// stays. `Err` is want of memory.
 pub fn outgoing<L: Ledger>(
     alloc: Global,
@@ -82,5 +82,6 @@ pub fn outgoing<L: Ledger>(
     let (mut out, topics) = apart(alloc, board, touched, steps)?;
     let spent = spent_of(alloc, board, &out, topics.as_slice(), steps)?;
     put_all(&mut out, spent.as_slice())?;
+    out.reverse();
     Ok(out)
 }

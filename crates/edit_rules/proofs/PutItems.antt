@@ -8,7 +8,7 @@ use Rattle.cat_items.specs.Order.{item_cmp}
 use Rattle.cat_items.specs.Catalogues.{HasKeyAt}
 
 -- one that is there already
-pub put_again : (items : List Item) (k : ℕ) (item : Item) → HasKeyAt items k item → ((y : Item) → Contains items y → item_cmp y item ≡ Equal → y ≡ item) → (x : Item) → Contains items x ↔ (Contains items x ⊎ (x ≡ item))
+put_again : (items : List Item) (k : ℕ) (item : Item) → HasKeyAt items k item → ((y : Item) → Contains items y → item_cmp y item ≡ Equal → y ≡ item) → (x : Item) → Contains items x ↔ (Contains items x ⊎ (x ≡ item))
 put_again items k item has own x = (λ h. inl h, from)
   where
     there : Item
@@ -20,9 +20,6 @@ put_again items k item has own x = (λ h. inl h, from)
     from : Contains items x ⊎ (x ≡ item) → Contains items x
     from (inl h) = h
     from (inr e) = subst (Contains items) (sym e) (k, has.0, is)
-
-pub put_new : (old reserved new : List Item) (item : Item) → reserved ≡ old → ((x : Item) → Contains new x ↔ (Contains reserved x ⊎ (x ≡ item))) → (x : Item) → Contains new x ↔ (Contains old x ⊎ (x ≡ item))
-put_new old reserved new item same members = subst (λ l. (x : Item) → Contains new x ↔ (Contains l x ⊎ (x ≡ item))) same members
 
 -- whether it was put in or is there
 pub put_or_there : (put : Bool) (old new : List Item) (item : Item) → (IsTrue put → (x : Item) → Contains new x ↔ (Contains old x ⊎ (x ≡ item))) → (IsFalse put → (k : ℕ) × HasKeyAt old k item) → (IsFalse put → new ≡ old) → ((y : Item) → Contains old y → item_cmp y item ≡ Equal → y ≡ item) → (x : Item) → Contains new x ↔ (Contains old x ⊎ (x ≡ item))

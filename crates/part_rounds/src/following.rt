@@ -11,25 +11,29 @@ use crate::trying::try_mark;
 use cat_items::{Auth, Catalogue, Item, Marks, Part, places};
 use role_graph::Walk;
 use sql_tree::Name;
+use std::cmp::Ordering;
 
-/// Whether a grantor is the user or role of this name.
-fn is_named(grantor: &Auth, name: &Name) -> bool {
+/// Compares a grantor with the user or role of this name.
+fn compare_grantor(grantor: &Auth, name: &Name) -> Ordering {
     match grantor {
-        Auth::Named(grantor) => grantor.same(name),
-        _ => false,
+        Auth::System | Auth::Public => Ordering::Less,
+        Auth::Named(grantor) => grantor.cmp(name),
     }
 }
 
-/// Whether an item is the option of another, or granted by who got the other as an option.
-fn follows(x: &Item, before: &Item) -> bool {
+/// Compares an item with those that follow from another, of one need or one role: these are the option of the other, or what
+/// was granted by who got the other as an option.
+fn compare_following(x: &Item, before: &Item) -> Ordering {
     match (before, x) {
-        (Item::Held(right), Item::Grantable(option)) => right.get().same(option.get()),
-        (Item::Grantable(option), Item::Held(right)) => right.get().grantor == option.get().grantee,
-        (Item::RoleAuth(grant), Item::RoleAdmin(option)) => grant.get().same(option.get()),
-        (Item::RoleAdmin(option), Item::RoleAuth(grant)) => {
-            is_named(&grant.get().grantor, &option.get().grantee)
+        (Item::Held(right), Item::Grantable(option)) => option.get().cmp(right.get()),
+        (Item::Grantable(option), Item::Held(right)) => {
+            right.get().grantor.cmp(&option.get().grantee)
         }
-        _ => false,
+        (Item::RoleAuth(grant), Item::RoleAdmin(option)) => option.get().cmp(grant.get()),
+        (Item::RoleAdmin(option), Item::RoleAuth(grant)) => {
+            compare_grantor(&grant.get().grantor, &option.get().grantee)
+        }
+        _ => Ordering::Greater,
     }
 }
 
@@ -44,7 +48,8 @@ fn part_behind(x: &Item) -> Option<Part<'_>> {
     }
 }
 
-/// The first place without a mark at which an item stands that follows from this one.
+/// The first place without a mark at which an item stands that follows from this one: a search, as what follows from one item stands
+/// together.
 fn next_place(c: &Catalogue, marks: &Marks, x: &Item) -> Option<usize>
     requires { length marks.now ≡ length c.now.items }
     ensures { IfSome result (λ next. next < length c.now.items) }
@@ -54,8 +59,13 @@ fn next_place(c: &Catalogue, marks: &Marks, x: &Item) -> Option<usize>
         return None;
     };
     let range = places(c, part);
-    for at in range.start..range.end {
-        if !marks.marked(at) && follows(&items[at], x) {
+    let (start, end) = (range.start, range.end);
+    let first = start + items[start..end].partition_point(|y| compare_following(y, x).is_lt());
+    for at in first..end {
+        if compare_following(&items[at], x).is_ne() {
+            return None;
+        }
+        if !marks.marked(at) {
             return Some(at);
         }
     }

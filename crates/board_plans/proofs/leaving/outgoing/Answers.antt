@@ -1,5 +1,6 @@
-use Rattle.std.proofs.Common.{◌∙◌, arith}
-use Rattle.board_plans.proofs.Outgoing.{all_cost, all_go, at_least, topics_have_keys}
+use Rattle.std.proofs.Common.{◌∙◌, sym, subst, arith}
+use Rattle.board_plans.proofs.Outgoing.{all_cost, all_go, at_least, go_backwards, topics_have_keys}
+use Rattle.board_plans.specs.Leaving.{AreOutgoing}
 use Rattle.board_plans.proofs.leaving.outgoing.Goals as goal
 
 pub spent_of-requires : goal.spent_of-requires
@@ -20,8 +21,10 @@ returns-in_err-put_all-clause-few g c =
 
 pub returns-clause-out : goal.returns-clause-out
 returns-clause-out g c =
+    let there =
     all_go c.args.board.now c.args.touched.now.keys c.in_ok-out.out.keys c.as_slice.result.now c.in_ok-out.ensures.items (c.as_slice.ensures.value ∙ c.in_ok-out.ensures.topics) c.as_slice-2.result.now
-    (c.as_slice-2.ensures.value ∙ c.in_ok-spent.ensures.spent) c.put_all.new.numbers.keys c.in_ok-put_all.ensures
+    (c.as_slice-2.ensures.value ∙ c.in_ok-spent.ensures.spent) c.put_all.new.numbers.keys c.in_ok-put_all.ensures in
+    subst (AreOutgoing c.args.board.now c.args.touched.now.keys) (sym c.reverse.ensures.keys) (go_backwards c.args.board.now c.args.touched.now.keys c.put_all.new.numbers.keys there)
 
 pub returns-clause-few : goal.returns-clause-few
 returns-clause-few g c =
