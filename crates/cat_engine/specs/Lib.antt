@@ -12,5 +12,6 @@ pub mod Shared
 pub mod Steps
 pub mod WordRefusals
 pub use Rattle.catalogue_edits.specs.Board
+pub use Rattle.catalogue_edits.specs.contracts.places.KnownPlaces
 pub use Rattle.catalogue_edits.specs.contracts.store.Store
 pub use Rattle.catalogue_edits.specs.declared.warning.Warning

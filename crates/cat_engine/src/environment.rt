@@ -254,6 +254,13 @@ impl Environment {
         Ok(outcome_of(warning))
     }
 
+    // Finds where each authorization has rights or owns, by which a query is answered quickly.
+    fn look(&mut self, alloc: Global)
+        ensures { self.new ≡ self.old }
+    {
+        self.store.find_places(alloc);
+    }
+
     // The rows of the Information Schema that a query asks for.
     fn select(&self, alloc: Global, number: u32, query: &InfoQuery) -> Result<Outcome, EditError>
         ensures { IsTested (refusals.select_refusals number self.now query.now)
@@ -262,7 +269,13 @@ impl Environment {
         let Some(who) = self.sessions.who(number) else {
             return Err(EditError::Refused(Refusal::NotConnected));
         };
-        match answer(alloc, self.store.catalogue(), who, query) {
+        match answer(
+            alloc,
+            self.store.catalogue(),
+            self.store.places(),
+            who,
+            query,
+        ) {
             Ok(rows) => Ok(Outcome::Answered(rows)),
             Err(InfoError::UnknownName(path)) => {
                 Err(EditError::Refused(Refusal::UnknownName { path }))
@@ -296,7 +309,10 @@ impl Environment {
             Statement::Disconnect(name) => self.disconnect(number, &name),
             Statement::SetSchema(schema) => self.set_schema(number, schema),
             Statement::SetRole(choice) => self.set_role(alloc, number, choice),
-            Statement::Select(query) => self.select(alloc, number, &query),
+            Statement::Select(query) => {
+                self.look(alloc);
+                self.select(alloc, number, &query)
+            }
             edit => self.edit(alloc, limits, number, &edit, steps),
         }
     }

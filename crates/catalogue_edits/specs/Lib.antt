@@ -1,4 +1,5 @@
 pub mod Kinds
+pub mod KnownPlaces
 pub mod Limits
 pub mod LookUps
 pub mod Restrict

@@ -3,6 +3,7 @@
 
 mod calls;
 mod laws;
+mod places;
 mod plan;
 mod revisions;
 mod store;

@@ -1,6 +1,6 @@
 //! The catalogue with its board, and what an edit makes of both.
 
-ghost use Rattle.std.specs.Prelude.{◌≡◌, ◌≤◌, ◌∷◌, [], List, IfOk, OnOk, length};
+ghost use Rattle.std.specs.Prelude.{◌≡◌, ◌≤◌, ◌∷◌, [], List, IfOk, IfSome, OnOk, length};
 ghost use Rattle.cat_items.specs.declared.item.Item.{Item};
 ghost use Rattle.cat_items.specs.Edits.{IsNew};
 ghost use Rattle.cat_items.specs.Good.{IsGood};
@@ -10,17 +10,20 @@ ghost use Rattle.catalogue_changes.specs.Effects.{IsMadeBy};
 ghost use Rattle.catalogue_changes.specs.Widths.{IsNarrow};
 ghost use Rattle.edit_rules.specs.First.{HasPassed, IsTested, Tested};
 ghost use Rattle.edit_laws.specs.Sound.{IsSound};
+ghost use Rattle.own_places.specs.Places.{HasPlaces};
 ghost use Rattle.catalogue_edits.specs.Limits.{too_many_columns, too_many_items};
 ghost use Rattle.catalogue_edits.specs.LookUps.{TakesFew};
 ghost use Rattle.catalogue_edits.specs.Restrict.{still_needed};
 ghost use Rattle.catalogue_edits.specs.Revisions.{outcome_refusals};
 ghost use Rattle.catalogue_edits.specs.Stores.{IsAdmitted};
 
+use crate::places::{KnownPlaces, note_coming};
 use cat_items::{Catalogue, Edit, EditError, Limits, Refusal};
 use catalogue_changes::{
     Change, Effects, change_of, columns_beyond_after, count_after, least_further, make,
 };
 use item_index::Steps;
+use own_places::OwnPlaces;
 use revoke_cascade::{Board, Cascade};
 use std::alloc::{AllocError, Global};
 use std::marker::Model;
@@ -31,6 +34,7 @@ use std::sync::ledger::Ledger;
 pub struct Store {
     catalogue: Catalogue,
     board: Board,
+    places: Option<KnownPlaces>,
 }
 
 impl Model for Store {
@@ -41,6 +45,7 @@ impl Model for Store {
     ghost use Rattle.std.specs.Coded.{codes};
     ghost use Rattle.cat_items.specs.Good.{IsGood};
     ghost use Rattle.board_graph.specs.Boards.{Holds};
+    ghost use Rattle.catalogue_edits.specs.KnownPlaces.{KnowsPlaces};
 
     ghost Value = { List Item };
 
@@ -48,7 +53,7 @@ impl Model for Store {
 
     ghost view = { λ s. s.catalogue.items };
 
-    ghost invariant = { λ s. IsGood s.catalogue.items × Holds s.board s.catalogue.items };
+    ghost invariant = { λ s. IsGood s.catalogue.items × Holds s.board s.catalogue.items × KnowsPlaces s.catalogue.items s.places };
 }
 
 /// Refuses what takes or changes something beyond its target, where it may not.
@@ -138,7 +143,11 @@ impl Store {
         ensures { IfOk result (λ store. store ≡ catalogue.items) }
     {
         let board = Board::new(alloc, &catalogue)?;
-        Ok(Store { catalogue, board })
+        Ok(Store {
+            catalogue,
+            board,
+            places: None,
+        })
     }
 
     /// The catalogue. No memory.
@@ -147,6 +156,25 @@ impl Store {
         ensures good { IsGood self.now }
     {
         &self.catalogue
+    }
+
+    /// Finds where each authorization has rights or owns, if that isn't known: one pass over the catalogue. Where memory is wanting it stays unknown.
+    pub fn find_places(&mut self, alloc: Global)
+        ensures { self.new ≡ self.old }
+    {
+        if self.places.is_none() {
+            self.places = KnownPlaces::of(alloc, self.catalogue.items()).ok();
+        }
+    }
+
+    /// Where each authorization has rights or owns, if that is known: an edit keeps it so. It takes no memory.
+    pub fn places(&self) -> Option<&OwnPlaces>
+        ensures { IfSome result (λ places. HasPlaces self.now places.now) }
+    {
+        match &self.places {
+            Some(known) => Some(&known.places),
+            None => None,
+        }
     }
 
     /// Makes of the catalogue what an edit makes of it, unless RESTRICT or the limits refuse that: then, and where memory is wanting, all
@@ -175,6 +203,7 @@ impl Store {
             steps,
         )?;
         self.catalogue.reserve(change.coming.items().len())?;
+        note_coming(alloc, &mut self.places, change.coming.items());
         make(&mut self.catalogue, change);
         let _ = cascade.run(&mut self.board);
         Ok(())

@@ -44,7 +44,7 @@ fn table(
     ensures { IfOk result (IsTableOf c.now.items which name.now) }
 {
     let name = table_name(alloc, name)?;
-    let rows = table_rows(alloc, c, Viewer::Whole, which)?;
+    let rows = table_rows(alloc, c, Viewer::Whole, which, None)?;
     Ok(DefTable { name, rows })
 }
 

@@ -1,6 +1,7 @@
 //! Answers.
 
-ghost use Rattle.std.specs.Prelude.{◌≡◌};
+ghost use Rattle.std.specs.Prelude.{◌≡◌, IfSome};
+ghost use Rattle.own_places.specs.Places.{HasPlaces};
 ghost use Rattle.information_schema.specs.Answers.{Answers, IsAnswerFor};
 ghost use Rattle.information_schema.specs.Queries.{refusal};
 ghost use Rattle.information_schema.specs.declared.answers.InfoError.TheVariants.{Memory};
@@ -9,6 +10,7 @@ use crate::refusals::{no_view, test_query};
 use crate::selection::selected;
 use crate::views::view_named;
 use cat_items::{Catalogue, Row, Who};
+use own_places::OwnPlaces;
 use role_graph::enabled;
 use shown_items::{Session, Viewer, table_rows};
 use sql_tree::{InfoQuery, Items, Path};
@@ -40,8 +42,16 @@ impl From<AllocError> for InfoError {
 
 /// The answer to a SELECT from a view of the Information Schema, for the user and the role of a session (SQL:2003 part 11, 5).
 ///
-/// Rows are in order and each once before the tests and the choice of columns, so an answer may have equal rows.
-pub fn answer(alloc: Global, c: &Catalogue, who: &Who, query: &InfoQuery) -> Result<Rows, InfoError>
+/// Rows are in order and each once before the tests and the choice of columns, so an answer may have equal rows. Where the places of the
+/// catalogue are known, it looks at no more than the session may see; the answer is the same.
+pub fn answer(
+    alloc: Global,
+    c: &Catalogue,
+    places: Option<&OwnPlaces>,
+    who: &Who,
+    query: &InfoQuery,
+) -> Result<Rows, InfoError>
+    requires { IfSome places (λ places. HasPlaces c.now.items places.now) }
     ensures { Answers result (refusal query.now) (λ answer. IsAnswerFor c.now.items who.now query.now answer.rows) }
 {
     let Some(view) = view_named(query.view.bytes()) else {
@@ -53,7 +63,7 @@ pub fn answer(alloc: Global, c: &Catalogue, who: &Who, query: &InfoQuery) -> Res
         user: &who.user,
         enabled: names.as_slice(),
     };
-    let all = table_rows(alloc, c, Viewer::Session(session), view.table)?;
+    let all = table_rows(alloc, c, Viewer::Session(session), view.table, places)?;
     let rows = selected(alloc, view.columns, query, &all)?;
     Ok(Rows {
         rows: Items::from_vec(rows),

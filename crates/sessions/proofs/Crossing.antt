@@ -6,6 +6,7 @@ use Rattle.item_index.specs.contracts.lists.Lists as Lists
 use Rattle.cat_items.proofs.Sends.{item_send}
 use Rattle.cat_items.specs.contracts.catalogue.Catalogue as Catalogue
 use Rattle.cat_engine.specs.Board as Board
+use Rattle.cat_engine.specs.KnownPlaces as KnownPlaces
 use Rattle.cat_engine.specs.Store as Store
 use Rattle.cat_engine.specs.contracts.session.Session as Session
 use Rattle.cat_engine.specs.contracts.sessions.Sessions as Sessions
@@ -22,8 +23,11 @@ lists_send = search (crosses, frees, sendable) depth 30 fits 100000
 board_send : IsSend Board.the_row
 board_send = search (item_send, lists_send, crosses, frees, sendable) depth 30 fits 100000
 
+known_send : IsSend KnownPlaces.the_row
+known_send = search (maps.crosses, crosses, frees, sendable) depth 30 fits 100000
+
 store_send : IsSend Store.the_row
-store_send = search (catalogue_send, board_send, sendable) depth 30 fits 100000
+store_send = search (catalogue_send, board_send, known_send, sendable) depth 30 fits 100000
 
 session_send : IsSend Session.the_row
 session_send = search (crosses, frees, sendable) depth 30 fits 100000

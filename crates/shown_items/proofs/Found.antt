@@ -1,27 +1,26 @@
--- What a session sees is found by what concerns it.
-use Rattle.std.proofs.Common.{◌≡◌, ◌⊎◌, inl, inr, refl, sym, subst, List, Some, false}
+-- What a session sees is found by its places.
+use Rattle.std.proofs.Common.{◌≡◌, inl, inr, refl, sym, subst, List, [], ◌∷◌, Some, false}
 use Rattle.std.specs.List.{Contains}
 use Rattle.sql_names.specs.NameBytes.{NameBytes, PathNames}
 use Rattle.sql_names.specs.declared.object.Object.{Object}
 use Rattle.sql_tree.specs.declared.rights.Action.{Action}
 use Rattle.sql_tree.specs.declared.rights.Action.TheVariants as action
+use Rattle.cat_items.specs.declared.need.Auth.TheVariants as auths
 use Rattle.cat_items.specs.declared.item.Domain.{Domain}
 use Rattle.cat_items.specs.declared.item.Right.{Right}
 use Rattle.cat_items.specs.declared.item.Routine.{Routine}
-use Rattle.cat_items.specs.declared.item.Schema.{Schema}
 use Rattle.cat_items.specs.declared.item.View.{View}
 use Rattle.cat_items.specs.declared.item.Item.{Item}
 use Rattle.cat_items.specs.declared.item.Item.TheVariants as item
-use Rattle.cat_items.specs.Reach.{Has}
 use Rattle.cat_items.specs.Rights.{path_of, IsObject}
 use Rattle.schema_tables.specs.declared.names.SchemaTable.{SchemaTable}
 use Rattle.schema_tables.specs.Cells.{Row}
 use Rattle.schema_tables.specs.Shown.{Shown}
 use Rattle.schema_tables.specs.Sight.{Session, Viewer, IsNeedOn, IsRightOn, IsSchemaOwned}
 use Rattle.schema_tables.specs.TableRows.{Beside, rows}
-use Rattle.shown_items.specs.Candidates.{IsFaceNear, IsNearFace, IsOwnerFace, IsRightFace}
+use Rattle.shown_items.specs.Candidates.{IsFaceNear, IsOwnerFace, IsRightFace}
 use Rattle.shown_items.specs.Faces.{IsFace, IsItemFace}
-use Rattle.shown_items.specs.Own.{AreOfOneObject, AreOwn}
+use Rattle.shown_items.specs.Own.{AreOwn}
 use Rattle.shown_items.specs.Reads.{reads_rights, reads_roles}
 use Rattle.shown_items.proofs.Reading as reading
 
@@ -47,31 +46,17 @@ at_routine : (a : Action) (path : PathNames) (x : Routine) → IsObject a path (
 at_routine action.Execute path x h = h
 at_routine other path x h = absurd h
 
-module _ (c : List Item) (w : Session) (own : List Item) (all : AreOwn c w own) (s : Shown) where
+module _ (c : List Item) (w : Session) (own : List PathNames) (all : AreOwn c w own) (s : Shown) where
   abbrev viewer : Viewer
   viewer = Some w
 
-  -- a right on the same object shows the same
-  as_right : (r : Right) → Has c (λ x. IsRightFace r.need.on c viewer x s) → (y : Item) → (y ≡ item.Held r) ⊎ AreOfOneObject y (item.Held r) → IsNearFace y c viewer s
-  as_right r h y (inl e) = subst (λ z. IsNearFace z c viewer s) (sym e) h
-  as_right r h (item.Held a) (inr e) = subst (λ on. Has c (λ x. IsRightFace on c viewer x s)) (sym e) h
-  as_right r h y (inr e) = absurd e
-
-  as_schema : (x : Schema) → Has c (λ y. IsOwnerFace x.name c viewer y s) → (y : Item) → (y ≡ item.Schema x) ⊎ AreOfOneObject y (item.Schema x) → IsNearFace y c viewer s
-  as_schema x h y (inl e) = subst (λ z. IsNearFace z c viewer s) (sym e) h
-  as_schema x h (item.Held a) (inr e) = absurd e
-  as_schema x h y (inr e) = absurd e
-
   by_right : (x : Item) → ((r : Right) → IsNeedOn x r.need → IsRightFace r.need.on c viewer x s) → Contains c x → (y : Item) → Contains c y → IsRightOn w x y → IsFaceNear own c viewer s
-  by_right x face there (item.Held r) is h =
-      let found = all (item.Held r) is h.1 in
-      (found.0, found.1, as_right r (x, there, face r h.0) found.0 found.2)
+  by_right x face there (item.Held r) is h = (r.need.on, all (item.Held r) r.grantee r.need.on is (refl, refl) h.1, inl (x, there, face r h.0))
   by_right x face there y is h = absurd h
 
   by_owner : (schema : NameBytes) (x : Item) → Contains c x → IsOwnerFace schema c viewer x s → (y : Item) → Contains c y → IsSchemaOwned w schema y → IsFaceNear own c viewer s
   by_owner schema x there face (item.Schema z) is h =
-      let found = all (item.Schema z) is h.1 in
-      (found.0, found.1, as_schema z (x, there, subst (λ n. IsOwnerFace n c viewer x s) (sym h.0) face) found.0 found.2)
+      (z.name ∷ [], all (item.Schema z) (auths.Named z.owner) (z.name ∷ []) is (refl, refl) h.1, inr (z.name, refl, (x, there, subst (λ n. IsOwnerFace n c viewer x s) (sym h.0) face)))
   by_owner schema x there face y is h = absurd h
 
   module _ (which : SchemaTable) (rights : reads_rights which ≡ false) (roles : reads_roles which ≡ false) (m : Beside) (row : Row) (has : Contains (rows which m s) row) where

@@ -3,6 +3,7 @@ pub mod Faces
 pub mod Found
 pub mod LooksShown
 pub mod Near
+pub mod Owned
 pub mod Owning
 pub mod Positions
 pub mod Puts

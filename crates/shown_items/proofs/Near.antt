@@ -1,12 +1,10 @@
 -- What a right shows of its object, and a schema to its owner, is among what some parts of a catalogue show.
-use Rattle.std.proofs.Common.{◌≡◌, inl, inr, refl, sym, ap, ◌∙◌, ℕ, Bool, true, false, List, [], ◌∷◌, Some, arith}
+use Rattle.std.proofs.Common.{◌≡◌, inl, inr, refl, sym, ap, subst, ◌∙◌, ℕ, length, slice_get, Bool, true, false, List, [], ◌∷◌, Some, None, arith}
 use Rattle.std.specs.Prelude.{IsTrue}
 use Rattle.std.specs.Borrow.{Bor}
 use Rattle.std.specs.List.{Contains}
-use Rattle.sql_names.specs.NameBytes.{PathNames}
+use Rattle.sql_names.specs.NameBytes.{NameBytes, PathNames}
 use Rattle.sql_names.specs.declared.object.Object.{Object}
-use Rattle.cat_items.specs.declared.item.Right.{Right}
-use Rattle.cat_items.specs.declared.item.Schema.{Schema as SchemaItem}
 use Rattle.cat_items.specs.declared.item.Item.{Item}
 use Rattle.cat_items.specs.declared.item.Item.TheVariants as item
 use Rattle.cat_items.specs.declared.keys.ObjectKey.{ObjectKey}
@@ -21,7 +19,7 @@ use Rattle.schema_tables.specs.Cells.{Row}
 use Rattle.schema_tables.specs.Shown.{Shown}
 use Rattle.schema_tables.specs.Sight.{Viewer}
 use Rattle.schema_tables.specs.TableRows.{Beside, rows}
-use Rattle.shown_items.specs.Candidates.{IsFaceIn, IsFaceAmong, IsRightFace, IsOwnerFace, IsNearFace}
+use Rattle.shown_items.specs.Candidates.{IsFaceIn, IsFaceAmong, IsRightFace, IsOwnerFace, IsSchemaFace}
 use Rattle.shown_items.specs.Faces.{IsItemFace}
 use Rattle.shown_items.specs.Reads.{reads_tables, reads_views, reads_columns, reads_domains, reads_routines, reads_schemata, reads_view_needs, reads_routine_needs, reads_constraints}
 use Rattle.shown_items.proofs.Reading as reading
@@ -119,8 +117,15 @@ module _ (c : List Item) (v : Viewer) where
   pub no_right_faces : (on : PathNames) → ((o : Object) → path_of o ≡ on → ⊥) → (s : Shown) → Has c (λ y. IsRightFace on c v y s) → ⊥
   no_right_faces on none s h = no_object on none s h.0 h.2
 
-  -- nothing is near what is neither a right nor a schema
-  pub none_near : (x : Item) → ((z : SchemaItem) → x ≡ item.Schema z → ⊥) → ((r : Right) → x ≡ item.Held r → ⊥) → (s : Shown) → IsNearFace x c v s → ⊥
-  none_near (item.Schema z) no_schema no_right s h = no_schema z refl
-  none_near (item.Held r) no_schema no_right s h = no_right r refl
-  none_near x no_schema no_right s h = h
+  -- a path of one name is that of its schema, and no other is
+  pub no_schema : (on : PathNames) → ((length on ≡ 1) → ⊥) → (s : Shown) → IsSchemaFace on c v s → ⊥
+  no_schema on other s h = other (ap length h.1)
+
+  pub at_schema : (on : PathNames) (name : NameBytes) → Some name ≡ slice_get on 0 → (s : Shown) → IsSchemaFace on c v s → Has c (λ y. IsOwnerFace name c v y s)
+  at_schema on name is s h =
+      let first : Some name ≡ Some h.0 = is ∙ ap (λ l. slice_get l 0) h.1 in
+      let same : name ≡ h.0 = cc in
+      subst (λ n. Has c (λ y. IsOwnerFace n c v y s)) (sym same) h.2
+
+  pub nameless : (on : PathNames) → None ≡ slice_get on 0 → (s : Shown) → IsSchemaFace on c v s → ⊥
+  nameless on is s h = let odd : None ≡ Some h.0 = is ∙ ap (λ l. slice_get l 0) h.1 in cc

@@ -1,5 +1,5 @@
--- Where a session finds what it sees: at the objects of the rights that it has, and in the schemas that it owns.
-use Rattle.std.specs.Prelude.{◌≡◌, ◌⊎◌, IsTrue, List}
+-- What a session sees by its places: the objects on which it has a right, and the schemas that it owns.
+use Rattle.std.specs.Prelude.{◌≡◌, ◌⊎◌, IsTrue, List, [], ◌∷◌}
 use Rattle.std.specs.List.{Contains}
 use Rattle.sql_names.specs.NameBytes.{NameBytes, PathNames}
 use Rattle.cat_items.specs.declared.item.Item.{Item}
@@ -45,14 +45,16 @@ IsOwnerFace schema c v (item.Assertion x) s = (x.name.schema ≡ schema) × IsFa
 IsOwnerFace schema c v (item.Routine x) s = (x.routine.schema ≡ schema) × IsRoutineNeedsFace c v x s
 IsOwnerFace schema c v x s = ⊥
 
--- what a right shows of its object, and an owned schema of its objects
-abbrev pub IsNearFace : Item → List Item → Viewer → Shown → Type 0
-IsNearFace (item.Held r) c v s = Has c (λ x. IsRightFace r.need.on c v x s)
-IsNearFace (item.Schema x) c v s = Has c (λ y. IsOwnerFace x.name c v y s)
-IsNearFace x c v s = ⊥
+-- what the schema of a path of one name shows to its owner
+abbrev pub IsSchemaFace : PathNames → List Item → Viewer → Shown → Type 0
+IsSchemaFace on c v s = (schema : NameBytes) × (on ≡ schema ∷ []) × Has c (λ y. IsOwnerFace schema c v y s)
 
-abbrev pub IsFaceNear : List Item → List Item → Viewer → Shown → Type 0
-IsFaceNear own c v s = (x : Item) × Contains own x × IsNearFace x c v s
+-- what a place shows to one who owns it or has a right on it
+abbrev pub IsNearFace : PathNames → List Item → Viewer → Shown → Type 0
+IsNearFace on c v s = Has c (λ x. IsRightFace on c v x s) ⊎ IsSchemaFace on c v s
+
+abbrev pub IsFaceNear : List PathNames → List Item → Viewer → Shown → Type 0
+IsFaceNear own c v s = (on : PathNames) × Contains own on × IsNearFace on c v s
 
 -- the new list has the rows of the old one and those of what is so, and beside these at most some of what items show
 abbrev pub PutsRows : (Shown → Type 0) → (Shown → Type 0) → (Shown → Type 0) → SchemaTable → List Row → List Row → Type 0

@@ -1,28 +1,12 @@
--- What concerns a session: the schemas of its user and of enabled roles, and the rights that one of these or PUBLIC has.
-use Rattle.std.specs.Prelude.{◌≡◌, ◌⊎◌, List}
+-- Where a session finds what it sees: in the schemas that its user or an enabled role owns, and at the objects on which one of these or PUBLIC has a right.
+use Rattle.std.specs.Prelude.{List}
 use Rattle.std.specs.List.{Contains}
+use Rattle.sql_names.specs.NameBytes.{PathNames}
+use Rattle.cat_items.specs.declared.need.Auth.{Auth}
 use Rattle.cat_items.specs.declared.item.Item.{Item}
-use Rattle.cat_items.specs.declared.item.Item.TheVariants as item
-use Rattle.schema_tables.specs.Sight.{Session, IsOwn, IsOwnAuth}
+use Rattle.own_places.specs.Places.{IsPlaceOf}
+use Rattle.schema_tables.specs.Sight.{Session, IsOwnAuth}
 
-abbrev pub Concerns : Session → Item → Type 0
-Concerns s (item.Schema x) = IsOwn s x.owner
-Concerns s (item.Held r) = IsOwnAuth s r.grantee
-Concerns s x = ⊥
-
--- rights on one object
-abbrev pub AreOfOneObject : Item → Item → Type 0
-AreOfOneObject (item.Held a) (item.Held b) = a.need.on ≡ b.need.on
-AreOfOneObject x y = ⊥
-
--- it is there, or another right on its object
-abbrev pub IsFoundIn : List Item → Item → Type 0
-IsFoundIn own x = (y : Item) × Contains own y × ((y ≡ x) ⊎ AreOfOneObject y x)
-
--- the new list has what the old one has, and this
-abbrev pub Notes : Item → List Item → List Item → Type 0
-Notes x old new = ((y : Item) → Contains old y → Contains new y) × IsFoundIn new x
-
--- all that concerns the session is found there
-abbrev pub AreOwn : List Item → Session → List Item → Type 0
-AreOwn c s own = (x : Item) → Contains c x → Concerns s x → IsFoundIn own x
+-- all places of the session are among these
+abbrev pub AreOwn : List Item → Session → List PathNames → Type 0
+AreOwn c s own = (x : Item) (auth : Auth) (on : PathNames) → Contains c x → IsPlaceOf auth on x → IsOwnAuth s auth → Contains own on

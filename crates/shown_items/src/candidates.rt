@@ -1,15 +1,15 @@
-//! Rows of what a session sees, found by what concerns it.
+//! Rows of what a session sees, found by its places.
 
 ghost use Rattle.std.specs.Prelude.{◌≡◌, OnOk};
 ghost use Rattle.cat_items.specs.Reach.{Has};
 ghost use Rattle.role_graph.specs.Roles.{IsRoomFor};
-ghost use Rattle.shown_items.specs.Candidates.{IsFaceAmong, IsFaceIn, IsFaceNear, IsNearFace, IsOwnerFace, IsRightFace, Puts};
+ghost use Rattle.shown_items.specs.Candidates.{IsFaceAmong, IsFaceIn, IsFaceNear, IsNearFace, IsOwnerFace, IsRightFace, IsSchemaFace, Puts};
 ghost use Rattle.shown_items.specs.Faces.{Adds};
 
 use crate::items::put_item;
 use crate::reads::reads_part;
 use crate::sight::Sight;
-use cat_items::{Item, ObjectKind, Part, PathKey, Row, places};
+use cat_items::{ObjectKind, Part, PathKey, Row, places};
 use role_graph::{Walk, object_at};
 use sql_tree::{Name, Path};
 use std::alloc::{AllocError, Global};
@@ -107,37 +107,55 @@ fn put_schema(
     put_parts(alloc, out, sight, walk, &parts)
 }
 
-/// What is seen by reason of an item that concerns the session.
+/// What the schema of a path of one name shows to its owner.
+fn put_owned(
+    alloc: Global,
+    out: &mut Vec<Row>,
+    sight: Sight<'_>,
+    walk: &mut Walk,
+    on: &Path,
+) -> Result<(), AllocError>
+    requires { IsRoomFor walk.old sight.c.now.items }
+    ensures rows { OnOk result (Puts sight.entry (IsSchemaFace on.now) out.old.items out.new.items) }
+    ensures room { walk.new ≡ walk.old }
+{
+    if on.len() != 1 {
+        return Ok(());
+    }
+    match on.get(0) {
+        Some(schema) => put_schema(alloc, out, sight, walk, schema),
+        None => Ok(()),
+    }
+}
+
+/// What a place shows to one who owns it or has a right on it.
 fn put_near(
     alloc: Global,
     out: &mut Vec<Row>,
     sight: Sight<'_>,
     walk: &mut Walk,
-    x: &Item,
+    on: &Path,
 ) -> Result<(), AllocError>
     requires { IsRoomFor walk.old sight.c.now.items }
-    ensures rows { OnOk result (Puts sight.entry (IsNearFace x.now) out.old.items out.new.items) }
+    ensures rows { OnOk result (Puts sight.entry (IsNearFace on.now) out.old.items out.new.items) }
     ensures room { walk.new ≡ walk.old }
 {
-    match x {
-        Item::Held(right) => put_object(alloc, out, sight, walk, &right.get().need.on),
-        Item::Schema(schema) => put_schema(alloc, out, sight, walk, &schema.get().name),
-        _ => Ok(()),
-    }
+    put_object(alloc, out, sight, walk, on)?;
+    put_owned(alloc, out, sight, walk, on)
 }
 
-/// What is seen by reason of several.
+/// What several show.
 pub fn put_candidates(
     alloc: Global,
     out: &mut Vec<Row>,
     sight: Sight<'_>,
-    own: &[Item],
+    own: &[Path],
 ) -> Result<(), AllocError>
     ensures { OnOk result (Puts sight.entry (IsFaceNear own.now) out.old.items out.new.items) }
 {
     let mut walk = Walk::new(alloc, sight.c)?;
-    for x in own {
-        put_near(alloc, out, sight, &mut walk, x)?;
+    for on in own {
+        put_near(alloc, out, sight, &mut walk, on)?;
     }
     Ok(())
 }

@@ -1,76 +1,72 @@
-//! What concerns a session: the schemas that it owns, and the rights that it has.
+//! Where a session finds what it sees: the places of its user, of PUBLIC and of the enabled roles.
 
-ghost use Rattle.std.specs.Prelude.{◌↔◌, IsTrue, IfOk, IfSome, OnOk};
-ghost use Rattle.shown_items.specs.Own.{AreOfOneObject, AreOwn, Concerns, IsFoundIn, Notes};
+ghost use Rattle.std.specs.Prelude.{Contains, IfOk, IfSome, OnOk};
+ghost use Rattle.finite_chains.specs.Chains.{IsWithin};
+ghost use Rattle.own_places.specs.Places.{HasPlaces};
+ghost use Rattle.schema_tables.specs.Sight as sight;
+ghost use Rattle.shown_items.specs.Own.{AreOwn};
 ghost use Rattle.shown_items.specs.Viewers.{session_of};
 
-use crate::session::{Session, is_own, is_own_auth};
-use cat_items::{Catalogue, Item};
+use crate::session::Session;
+use cat_items::{Auth, Catalogue};
+use own_places::OwnPlaces;
+use sql_tree::Path;
 use std::alloc::{AllocError, Global};
 
-/// Whether an item concerns the session: a look at an owner or a grantee, and no look-up.
-fn concerns(session: Session<'_>, x: &Item) -> bool
-    ensures { IsTrue result ↔ Concerns (session_of session.entry) x.now }
+/// Whose rights a session has: PUBLIC's, its user's and those of its enabled roles.
+fn own_auths(alloc: Global, session: Session<'_>) -> Result<Vec<Auth>, AllocError>
+    ensures { IfOk result (λ auths. (auth : Auth) → sight.IsOwnAuth (session_of session.entry) auth → Contains auths.items auth) }
 {
-    match x {
-        Item::Schema(schema) => is_own(session, &schema.get().owner),
-        Item::Held(right) => is_own_auth(session, &right.get().grantee),
-        _ => false,
+    let mut auths = Vec::new(alloc);
+    auths.push(Auth::Public)?;
+    auths.push(Auth::Named(session.user.copy()?))?;
+    for name in session.enabled {
+        auths.push(Auth::Named(name.copy()?))?;
     }
+    Ok(auths)
 }
 
-/// Whether both are rights on one object.
-fn are_of_one_object(a: &Item, b: &Item) -> bool
-    ensures { IsTrue result ↔ AreOfOneObject a.now b.now }
-{
-    match (a, b) {
-        (Item::Held(a), Item::Held(b)) => a.get().need.on.same(&b.get().need.on),
-        _ => false,
+/// Whether these have more than `most` places.
+fn are_many(places: &OwnPlaces, auths: &[Auth], most: usize) -> bool {
+    let mut left = most;
+    for auth in auths {
+        let count = places.at(auth).len();
+        if left < count {
+            return true;
+        }
+        left -= count;
     }
+    false
 }
 
-/// Whether the last item leads where this one leads.
-fn goes_with_last(own: &[Item], x: &Item) -> bool
-    ensures { IsTrue result → IsFoundIn own.now x.now }
+/// Puts paths behind others.
+fn put_paths(own: &mut Vec<Path>, paths: &[Path]) -> Result<(), AllocError>
+    ensures kept { OnOk result (IsWithin own.old.items own.new.items) }
+    ensures put { OnOk result (IsWithin paths.now own.new.items) }
 {
-    match own.last() {
-        Some(last) => are_of_one_object(last, x),
-        None => false,
+    for path in paths {
+        own.push(path.copy()?)?;
     }
-}
-
-/// Puts an item behind the others, if it doesn't go with the last of them.
-fn note(own: &mut Vec<Item>, x: &Item) -> Result<(), AllocError>
-    ensures { OnOk result (Notes x.now own.old.items own.new.items) }
-{
-    if goes_with_last(own.as_slice(), x) {
-        return Ok(());
-    }
-    own.push(x.copy()?)?;
     Ok(())
 }
 
-/// What concerns the session, where that is at most an eighth of the catalogue: of rights on one object that stand
-/// together only the first. `Err` is want of memory.
-pub fn own_items(
+/// The places of a session, where these are at most an eighth as many as the items of the catalogue. `Err` is want of memory.
+pub fn own_paths(
     alloc: Global,
     c: &Catalogue,
+    places: &OwnPlaces,
     session: Session<'_>,
-) -> Result<Option<Vec<Item>>, AllocError>
-    ensures { IfOk result (λ own. IfSome own (λ xs. AreOwn c.now.items (session_of session.entry) xs.items)) }
+) -> Result<Option<Vec<Path>>, AllocError>
+    requires { HasPlaces c.now.items places.now }
+    ensures { IfOk result (λ own. IfSome own (λ paths. AreOwn c.now.items (session_of session.entry) paths.items)) }
 {
-    let items = c.items();
-    let mut left = items.len() / 8;
+    let auths = own_auths(alloc, session)?;
+    if are_many(places, auths.as_slice(), c.items().len() / 8) {
+        return Ok(None);
+    }
     let mut own = Vec::new(alloc);
-    for x in items {
-        if !concerns(session, x) {
-            continue;
-        }
-        if left == 0 {
-            return Ok(None);
-        }
-        left -= 1;
-        note(&mut own, x)?;
+    for auth in auths.as_slice() {
+        put_paths(&mut own, places.at(auth))?;
     }
     Ok(Some(own))
 }

@@ -1,6 +1,7 @@
 //! The rows of a schema table.
 
-ghost use Rattle.std.specs.Prelude.{◌≡◌, IfOk, OnOk, false};
+ghost use Rattle.std.specs.Prelude.{◌≡◌, IfOk, IfSome, OnOk, false};
+ghost use Rattle.own_places.specs.Places.{HasPlaces};
 ghost use Rattle.schema_tables.specs.Listings.{AreRows};
 ghost use Rattle.schema_tables.specs.Sight.{IsShown};
 ghost use Rattle.schema_tables.specs.TableRows.{HasRow};
@@ -11,12 +12,13 @@ ghost use Rattle.shown_items.specs.declared.session.Viewer.TheVariants as viewer
 
 use crate::candidates::put_candidates;
 use crate::items::put_item;
-use crate::own::own_items;
+use crate::own::own_paths;
 use crate::putting::{alone, put_where};
 use crate::reads::{reads_rights, reads_roles};
 use crate::session::{Session, Viewer};
 use crate::sight::Sight;
 use cat_items::{Catalogue, Row};
+use own_places::OwnPlaces;
 use role_graph::Walk;
 use schema_tables::{SchemaTable, Seen, in_order};
 use std::alloc::{AllocError, Global};
@@ -46,49 +48,61 @@ fn put_all(alloc: Global, out: &mut Vec<Row>, sight: Sight<'_>) -> Result<(), Al
     Ok(())
 }
 
-/// The rows of all items, of a table of neither rights nor roles: by a look at what concerns the session, where that is little.
+/// The rows of all items, of a table of neither rights nor roles: by the places of the session, where these are few.
 fn put_seen(
     alloc: Global,
     out: &mut Vec<Row>,
     sight: Sight<'_>,
     session: Session<'_>,
+    places: &OwnPlaces,
 ) -> Result<(), AllocError>
     requires viewer { sight.viewer ≡ viewers.Session session }
     requires rights { reads_rights sight.table ≡ false }
     requires roles { reads_roles sight.table ≡ false }
+    requires places { HasPlaces sight.c.now.items places.now }
     ensures { OnOk result (Adds sight.entry IsItemFace out.old.items out.new.items) }
 {
-    match own_items(alloc, sight.c, session)? {
+    match own_paths(alloc, sight.c, places, session)? {
         Some(own) => put_candidates(alloc, out, sight, own.as_slice()),
         None => put_all(alloc, out, sight),
     }
 }
 
 /// The rows of all items.
-fn put_items(alloc: Global, out: &mut Vec<Row>, sight: Sight<'_>) -> Result<(), AllocError>
+fn put_items(
+    alloc: Global,
+    out: &mut Vec<Row>,
+    sight: Sight<'_>,
+    places: Option<&OwnPlaces>,
+) -> Result<(), AllocError>
+    requires { IfSome places (λ places. HasPlaces sight.c.now.items places.now) }
     ensures { OnOk result (Adds sight.entry IsItemFace out.old.items out.new.items) }
 {
     if reads_rights(sight.table) || reads_roles(sight.table) {
         return put_all(alloc, out, sight);
     }
-    match sight.viewer {
-        Viewer::Whole => put_all(alloc, out, sight),
-        Viewer::Session(session) => put_seen(alloc, out, sight, session),
+    match (sight.viewer, places) {
+        (Viewer::Session(session), Some(places)) => put_seen(alloc, out, sight, session, places),
+        _ => put_all(alloc, out, sight),
     }
 }
 
 /// The rows of a table, of what is shown of a catalogue to one who looks at it: in order, and each once. `Err` is want of memory.
+///
+/// The places of the catalogue, where these are known, let it look at no more than a session may see.
 pub fn table_rows(
     alloc: Global,
     c: &Catalogue,
     viewer: Viewer<'_>,
     table: SchemaTable,
+    places: Option<&OwnPlaces>,
 ) -> Result<Vec<Row>, AllocError>
+    requires { IfSome places (λ places. HasPlaces c.now.items places.now) }
     ensures { IfOk result (λ rows. AreRows (HasRow (IsShown c.now.items (viewer_of viewer.entry)) table) rows.items) }
 {
     let sight = Sight { c, viewer, table };
     let mut out = Vec::new(alloc);
-    put_items(alloc, &mut out, sight)?;
+    put_items(alloc, &mut out, sight, places)?;
     put_enabled(alloc, &mut out, sight)?;
     in_order(out)
 }

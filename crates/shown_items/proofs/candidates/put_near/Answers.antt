@@ -1,22 +1,19 @@
-use Rattle.std.proofs.Common.{List, refl}
+use Rattle.std.proofs.Common.{List}
+use Rattle.std.proofs.lemmas.Result.{on_ok_weaker}
 use Rattle.cat_items.specs.declared.item.Item.{Item}
+use Rattle.cat_items.specs.Reach.{Has}
 use Rattle.schema_tables.specs.Sight.{Viewer}
-use Rattle.shown_items.specs.Candidates.{IsNearFace}
+use Rattle.shown_items.specs.Candidates.{IsRightFace, IsSchemaFace}
 use Rattle.shown_items.specs.Faces.{shown_to, IsItemFace}
 use Rattle.shown_items.specs.Viewers.{viewer_of}
-use Rattle.shown_items.proofs.Near.{none_near}
-use Rattle.shown_items.proofs.Puts.{puts_none}
+use Rattle.shown_items.proofs.Puts.{both_put}
 use Rattle.shown_items.proofs.candidates.put_near.Goals as goal
 
-pub returns-in-Held-clause-rows : goal.returns-in-Held-clause-rows
-returns-in-Held-clause-rows c = rw (c.in-Held.is, ← c.get.ensures) c.put_object.ensures.rows
-
-pub returns-in-Schema-clause-rows : goal.returns-in-Schema-clause-rows
-returns-in-Schema-clause-rows c = rw (c.in-Schema.is, ← c.get-in-Schema.ensures) c.put_schema.ensures.rows
-
-pub returns-in_default-clause-rows : goal.returns-in_default-clause-rows
-returns-in_default-clause-rows c =
+pub returns-clause-rows : goal.returns-clause-rows
+returns-clause-rows c =
     let items : List Item = c.args.sight.c.now.items in
     let v : Viewer = viewer_of c.args.sight.viewer in
-    puts_none (shown_to c.args.sight) c.args.sight.table (IsItemFace items v) (IsNearFace c.args.x.now items v) c.args.out.now.items c.args.out.now.items
-    (λ s m row h has. none_near items v c.args.x.now c.in_default.not-Schema c.in_default.not-Held s h) refl
+    on_ok_weaker c.put_owned.result
+    (both_put (shown_to c.args.sight) c.args.sight.table (IsItemFace items v) (λ s. Has items (λ x. IsRightFace c.args.on.now items v x s)) (IsSchemaFace c.args.on.now items v) c.args.out.now.items c.put_object.new.out.items c.put_owned.new.out.items
+    c.in_ok-put_object.ensures.rows)
+    c.put_owned.ensures.rows

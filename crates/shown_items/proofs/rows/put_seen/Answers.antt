@@ -1,5 +1,6 @@
 use Rattle.std.proofs.Common.{List, ap, sym, subst}
 use Rattle.std.proofs.lemmas.Result.{on_ok_weaker}
+use Rattle.sql_names.specs.NameBytes.{PathNames}
 use Rattle.cat_items.specs.declared.item.Item.{Item}
 use Rattle.schema_tables.specs.Sight.{Viewer}
 use Rattle.shown_items.specs.Candidates.{IsFaceNear}
@@ -14,7 +15,7 @@ pub returns-in-Some : goal.returns-in-Some
 returns-in-Some c =
     let items : List Item = c.args.sight.c.now.items in
     let v : Viewer = viewer_of c.args.sight.viewer in
-    let own : List Item = c.as_slice.result.now in
+    let own : List PathNames = c.as_slice.result.now in
     let all = subst (AreOwn items (session_of c.args.session)) (sym c.as_slice.ensures.value) (rw c.in-Some.is at c.in_ok-own.ensures) in
     on_ok_weaker c.put_candidates.result
     (added_of_puts (shown_to c.args.sight) c.args.sight.table (IsItemFace items v) (IsFaceNear own items v) c.args.out.now.items c.put_candidates.new.out.items

@@ -1,7 +1,9 @@
 use Rattle.std.proofs.Common.{◌≡◌, subst, sym}
 use Rattle.sql_tree.specs.declared.statement.Statement.{Statement}
 use Rattle.sql_tree.specs.declared.statement.Statement.TheVariants.{Connect, SetConnection, Disconnect, SetSchema, SetRole}
+use Rattle.catalogue_changes.specs.Widths.{IsNarrow}
 use Rattle.edit_rules.specs.First.{Tested}
+use Rattle.cat_engine.specs.Contents.{Content}
 use Rattle.cat_engine.specs.Effects.{Changes, IsAnswered, connection_of}
 use Rattle.cat_engine.specs.Refusals.{role_chosen, select_refusals, statement_refusals}
 use Rattle.cat_engine.specs.Sessions.{connected, disconnected, set_for, switched}
@@ -45,8 +47,9 @@ pub returns-in-Select-clause-tested : goal.returns-in-Select-clause-tested
 returns-in-Select-clause-tested g c =
     let old = c.args.self.now in
     let query = c.in-Select.query in
-    subst (λ (s : Statement). Tested (statement_refusals c.args.limits.now c.args.number old s) (λ outcome. Changes s c.args.number old outcome old) (old ≡ old) c.select.result) (sym c.in-Select.is)
-    (asked (select_refusals c.args.number old query) (λ outcome. IsAnswered query c.args.number old outcome old) old c.select.result c.select.ensures)
+    let Stays : Content → Statement → Type 0 = λ now s. Tested (statement_refusals c.args.limits.now c.args.number old s) (λ outcome. Changes s c.args.number old outcome now) (now ≡ old) c.select.result in
+    subst (λ now. Stays now c.args.statement) (sym c.look.ensures)
+    (subst (Stays old) (sym c.in-Select.is) (asked (select_refusals c.args.number old query) (λ outcome. IsAnswered query c.args.number old outcome old) old c.select.result (rw c.look.ensures at c.select.ensures)))
 
 pub returns-in_default-clause-tested : goal.returns-in_default-clause-tested
 returns-in_default-clause-tested g c =
@@ -90,3 +93,6 @@ returns-in-SetRole-clause-narrow g c =
     let new = c.set_role.new.self in
     still_narrow old.catalogue new.catalogue c.args.limits.now.columns
     (same_catalogue (λ o. o ≡ Done) (statement_refusals c.args.limits.now c.args.number old (SetRole c.in-SetRole.choice)) c.args.number (λ s. set_for s (Role (role_chosen c.in-SetRole.choice))) old new c.set_role.result c.set_role.ensures) c.requires.narrow
+
+pub returns-in-Select-clause-narrow : goal.returns-in-Select-clause-narrow
+returns-in-Select-clause-narrow g c = subst (λ (now : Content). IsNarrow now.catalogue c.args.limits.now.columns) (sym c.look.ensures) c.requires.narrow

@@ -2,6 +2,9 @@ use Rattle.std.proofs.Common.{sym}
 use Rattle.cat_engine.proofs.Answering.{answered}
 use Rattle.cat_engine.proofs.environment.Environment.select.Goals as goal
 
+pub answer-requires : goal.answer-requires
+answer-requires c = rw c.catalogue.ensures.items c.places.ensures
+
 pub returns-in-Ok : goal.returns-in-Ok
 returns-in-Ok c =
     let told = rw c.catalogue.ensures.items at c.in-Ok.ensures in

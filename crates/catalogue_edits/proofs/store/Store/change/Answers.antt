@@ -7,10 +7,11 @@ use Rattle.board_graph.specs.Boards.{Holds}
 use Rattle.catalogue_changes.specs.Changes.{IsChange}
 use Rattle.catalogue_changes.specs.Widths.{IsNarrow}
 use Rattle.edit_laws.specs.Sound.{IsSound}
+use Rattle.catalogue_edits.specs.KnownPlaces.{KnowsPlaces}
 use Rattle.catalogue_edits.specs.Revisions.{outcome_refusals}
 use Rattle.catalogue_edits.specs.Stores.{IsAdmitted}
 use Rattle.catalogue_edits.specs.declared.store.Admitted.{Admitted}
-use Rattle.catalogue_edits.proofs.Stored.{handed_on}
+use Rattle.catalogue_edits.proofs.Stored.{handed_on, knows_new}
 use Rattle.catalogue_edits.proofs.store.Store.change.Goals as goal
 
 pub admit-requires-clause-narrow : goal.admit-requires-clause-narrow
@@ -40,6 +41,7 @@ pub invariant_of-self-in_err-reserve : goal.invariant_of-self-in_err-reserve
 invariant_of-self-in_err-reserve g c = (
   subst IsGood (sym c.reserve.ensures.items) c.self.invariant.0,
   subst (Holds c.admit.new.board) (sym c.reserve.ensures.items) c.in_ok-cascade.ensures.held,
+  subst (λ l. KnowsPlaces l c.self.inside.places) (sym c.reserve.ensures.items) c.self.invariant.2,
 )
 
 pub invariant_of-self-2 : goal.invariant_of-self-2
@@ -53,6 +55,8 @@ invariant_of-self-2 g c =
     let holds = c.run.ensures.held old new edit c.self.invariant.0 c.in_ok-cascade.ensures.held is.cascade in (
       subst IsGood (sym made) (new_is_good old edit sound.edited new sound.fit sound.shape is.cascade.made),
       subst (Holds c.run.new.board) (sym made) holds,
+      subst (λ l. KnowsPlaces l c.note_coming.new.places) (sym made)
+          (knows_new old new c.in_ok-cascade.field-0.change c.note_coming.new.places is.change (rw c.items-2.ensures.items at (c.note_coming.ensures old c.self.invariant.2))),
     )
 
 pub returns-clause-tested : goal.returns-clause-tested

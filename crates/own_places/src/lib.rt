@@ -1,0 +1,6 @@
+//! Where each authorization has rights or owns.
+#![tactic(auto)]
+
+mod places;
+
+pub use places::OwnPlaces;
