@@ -97,7 +97,7 @@ right_part f s u (item.Held r) is rests = (rests.1.0.0, rests.1.0.1, named (inl 
 right_part f s u (item.Grantable r) is rests = (rests.0.1.0.0, rests.0.1.0.1, named (inl (inl rests.0.1.0.2)))
 right_part f s u _ is rests = absurd is
 
-module _ (c edited u : List Item) (edit : Edit) (good : IsGood c) (fit : IsFit c edit edited) (spoken : (x : Item) → IsSpokenOf c edit edited x → Contains u x) (misses : MissesNothing u edited edit) where
+module _ (c edited u : List Item) (edit : Edit) (good : IsGood c) (fit : IsFit c edit edited) (spoken : (x : Item) → IsSpokenOf c edit edited x → Contains u x) (misses : MissesNothing u edit) where
   within : IsWithin c u
   within y h = spoken y (inl h)
 
@@ -129,8 +129,8 @@ module _ (c edited u : List Item) (edit : Edit) (good : IsGood c) (fit : IsFit c
 
   -- an added right that nothing is relevant to has no grantor by name
   right_given : (x : Item) → IsRight x → HasNone x → Contains edit.added x → is_given x ≡ false
-  right_given (item.Held r) right none h = by_grantor r.grantor (λ name e. no_parts (item.Held r) none (on.authorization name) (party r name e) (λ l parts. parts) (misses.added (item.Held r) (on.authorization name) h (by_name (party r name e))))
-  right_given (item.Grantable r) right none h = by_grantor r.grantor (λ name e. no_parts (item.Grantable r) none (on.authorization name) (party r name e) (λ l parts. parts) (misses.added (item.Grantable r) (on.authorization name) h (by_name (party r name e))))
+  right_given (item.Held r) right none h = by_grantor r.grantor (λ name e. no_parts (item.Held r) none (on.authorization name) (party r name e) (λ l parts. parts) (misses (item.Held r) (on.authorization name) h (by_name (party r name e))))
+  right_given (item.Grantable r) right none h = by_grantor r.grantor (λ name e. no_parts (item.Grantable r) none (on.authorization name) (party r name e) (λ l parts. parts) (misses (item.Grantable r) (on.authorization name) h (by_name (party r name e))))
   right_given _ right none h = absurd right
 
   user_alone : (x : Item) → IsUserOrRole x → IsAlone x
@@ -140,7 +140,7 @@ module _ (c edited u : List Item) (edit : Edit) (good : IsGood c) (fit : IsFit c
   added_alone x none h = elim (names_topic x) [
     | inl is ↦ user_alone x is
     | inr (inl right) ↦ record { given = right_given x right none h; granted = right_granted x right; old = old_alone x none }
-    | inr (inr of) ↦ absurd (no_parts x none of.0 of.1 of.2 (misses.added x of.0 h (by_name of.1)))
+    | inr (inr of) ↦ absurd (no_parts x none of.0 of.1 of.2 (misses x of.0 h (by_name of.1)))
   ]
 
   pub alone : (x : Item) → IsSpokenOf c edit edited x → HasNone x → IsAlone x

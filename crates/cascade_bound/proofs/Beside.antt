@@ -1,5 +1,5 @@
--- Beside each right that the system could grant and that doesn't stand, one stands that asks for no less, but by what changes a view.
-use Rattle.std.proofs.Common.{◌≡◌, ◌≢◌, ◌⊎◌, inl, inr, false, ℕ, List, Option, ap, refl, sym, subst}
+-- Beside each right that the system could grant and that doesn't stand, one stands that asks for no less, where nobody can change a view by the first.
+use Rattle.std.proofs.Common.{◌≡◌, ◌≢◌, ◌⊎◌, ◌-◌, inl, inr, false, ℕ, List, Option, Some, None, slice_get, ap, refl, sym, subst, ◌∙◌}
 use Rattle.std.specs.List.{Contains}
 use Rattle.sql_names.specs.declared.object.Object.{Object}
 use Rattle.sql_tree.specs.declared.body.Security.{Security}
@@ -17,17 +17,21 @@ use Rattle.cat_items.specs.declared.item.Item.{Item}
 use Rattle.cat_items.specs.declared.item.Item.TheVariants as item
 use Rattle.cat_items.specs.Good.{IsGood}
 use Rattle.cat_items.specs.Reach.{Has}
-use Rattle.cat_items.specs.Relevant.{IsObjectNeed, IsPartOfNeed, IsRightNeed, ActsInRight, OwnsPath}
-use Rattle.cat_items.specs.Rights.{IsObject}
+use Rattle.cat_items.specs.Needs.{column_need}
+use Rattle.cat_items.specs.Relevant.{ActsInRight, IsBaseColumnNeed, IsBaseNeed, IsNeedOnColumn, IsObjectNeed, IsPartOfNeed, IsRightNeed, IsViewNeed, OwnsPath}
+use Rattle.cat_items.specs.Rights.{IsObject, path_of}
+use Rattle.cat_items.specs.Shape.{HasDerivedFields}
 use Rattle.cat_items.specs.Supported.{IsGrantee, MayGrant, RightRests}
 use Rattle.cat_items.specs.Survivors.{MayBeSystemRight, MayBeSystemRow, MayBeSystemSchema, MayBeViewRow}
 use Rattle.cat_items.specs.SystemRights.{IsRoutineRow, security_of}
 use Rattle.cascade_laws.specs.Asks.{Asks, IsFarRightTopic, IsFirstTopic, by_far, by_name, by_option, of_admins, of_edges, of_need, of_supply}
-use Rattle.cascade_laws.specs.Topics.{IsAuthTopic, IsNeedTopic, IsObjectTopic, IsPartyTopic, IsRightTopic, Topic, held}
+use Rattle.cascade_laws.specs.Topics.{IsAuthTopic, IsNeedTopic, IsObjectTopic, IsPartyTopic, IsRightTopic, Topic, held, table}
 use Rattle.cascade_laws.proofs.Spread.{row_object}
 use Rattle.look_up_bound.proofs.RightsOn.{stands}
 use Rattle.look_up_bound.proofs.Survivor.{survivor_closed, survivor_supported}
-use Rattle.cascade_bound.proofs.SystemAsking.{IsUpdating, view_other}
+use Rattle.plain_needs.proofs.BaseNeeds.{base_needed}
+use Rattle.plain_needs.proofs.ColumnNeeds.{column_needed}
+use Rattle.cascade_bound.proofs.SystemAsking.{IsUpdating, updating_or_not, view_other}
 
 -- ---- actions on a view
 
@@ -54,9 +58,59 @@ table_object action.Admin column base row path y e = absurd row
 no_execute : (by : Action) (column : Option (List ℕ)) (base : Option Object) → MayBeViewRow by column base → by ≡ action.Execute → ⊥
 no_execute by column base row e = subst (λ a. MayBeViewRow a column base) e row
 
+-- ---- what a view needs for reading has the topics of what it goes by to be changed
+
+updating_topic : (by : Action) → IsUpdating by → (path : List (List ℕ)) (t : Topic) → IsObjectTopic by path t → t ≡ table path
+updating_topic action.Insert updates path t e = e
+updating_topic action.Update updates path t e = e
+updating_topic action.Delete updates path t e = e
+updating_topic _ updates path t e = absurd updates
+
+module _ (v : View) (derived : HasDerivedFields (item.View v)) where
+  -- one of its needs has all topics of this one
+  abbrev Reads : Need → Type 0
+  Reads need = (other : Need) × Contains v.needs other × ((t : Topic) → IsNeedTopic need t → IsNeedTopic other t)
+
+  reads_base : (by : Action) → IsUpdating by → (base : Option Object) → v.base ≡ base → (need : Need) → IsBaseNeed by base None need → Reads need
+  reads_base by updates None e need is = absurd is
+  reads_base by updates (Some o) e need is =
+      let other = base_needed v o derived e in
+      (other.0, other.1, λ t topic. at other.0 other.2 other.3 t (subst (λ n. IsNeedTopic n t) is topic))
+    where
+      at : (other : Need) → other.action ≡ action.Select → other.on ≡ path_of o → (t : Topic) → IsNeedTopic (record { action = by; on = path_of o; column = None }) t → IsNeedTopic other t
+      at other selects path t (inl topic) = inl (subst (λ a. IsObjectTopic a other.on t) (sym selects) (updating_topic by updates (path_of o) t topic ∙ ap table (sym path)))
+      at other selects path t (inr topic) = let odd : None ≡ Some topic.0 = topic.1 in absurd (cc odd)
+
+  reads_column : (by : Action) → IsUpdating by → (base : Option Object) → v.base ≡ base → (place : ℕ) (column : Option (List ℕ)) → slice_get v.base_columns place ≡ column → (need : Need) → IsNeedOnColumn by base column need → Reads need
+  reads_column by updates base e place None found need is = absurd is
+  reads_column by updates None e place (Some name) found need is = absurd is
+  reads_column by updates (Some o) e place (Some name) found need is = (column_need action.Select o name, column_needed v o place name derived e found, λ t topic. at t (subst (λ n. IsNeedTopic n t) is topic))
+    where
+      at : (t : Topic) → IsNeedTopic (record { action = by; on = path_of o; column = Some name }) t → IsNeedTopic (column_need action.Select o name) t
+      at t (inl topic) = inl (updating_topic by updates (path_of o) t topic)
+      at t (inr topic) = inr topic
+
+  reads_named : (by : Action) → IsUpdating by → (name : List ℕ) (need : Need) (y : Item) → IsBaseColumnNeed v by name need y → Reads need
+  reads_named by updates name need (item.Column k) is = reads_column by updates v.base refl (k.place - 1) (slice_get v.base_columns (k.place - 1)) refl need is.2
+  reads_named by updates name need _ is = absurd is
+
+  reads : (l : List Item) (by : Action) (column : Option (List ℕ)) → IsUpdating by → (need : Need) → IsViewNeed l v by column need → Reads need
+  reads l action.Insert None updates need is = reads_base action.Insert updates v.base refl need is
+  reads l action.Update None updates need is = reads_base action.Update updates v.base refl need is
+  reads l action.Delete None updates need is = reads_base action.Delete updates v.base refl need is
+  reads l action.Insert (Some name) updates need is = reads_named action.Insert updates name need is.0 is.2
+  reads l action.Update (Some name) updates need is = reads_named action.Update updates name need is.0 is.2
+  reads l action.Delete (Some name) updates need is = absurd is
+  reads l action.Select column updates need is = absurd updates
+  reads l action.References column updates need is = absurd updates
+  reads l action.Usage column updates need is = absurd updates
+  reads l action.Execute column updates need is = absurd updates
+  reads l action.Admin column updates need is = absurd updates
+
 -- ---- the right that stands
 
--- it is by the system to the same owner, on the same object and column, and asks for all that the first asks for, but by what changes a view
+-- It is by the system to the same owner, on the same object and column, SELECT where the first changes a view; it asks for all that the first asks for, but for the
+-- rights by which a view is changed.
 pub record IsBeside (r s : Right) : Type 0 where
   pub system : s.grantor ≡ System
   pub grantee : s.grantee ≡ r.grantee
@@ -64,6 +118,7 @@ pub record IsBeside (r s : Right) : Type 0 where
   pub topics : (t : Topic) → IsNeedTopic r.need t → IsNeedTopic s.need t
   pub parts : (y : Item) → IsPartOfNeed r.need y → IsPartOfNeed s.need y
   pub needs : (¬ (IsUpdating r.need.action)) → (l : List Item) (need : Need) → Has l (IsObjectNeed l r need) → Has l (IsObjectNeed l s need)
+  pub selects : IsUpdating r.need.action → s.need.action ≡ action.Select
 
 module _ (c : List Item) (good : IsGood c) where
   owner_stands : (z : Schema) → Contains c (item.Schema z) → (a : Auth) → a ≡ Named z.owner → IsGrantee c a
@@ -90,6 +145,7 @@ module _ (c : List Item) (good : IsGood c) where
           topics = topics;
           parts = parts;
           needs = needs;
+          selects = λ updates. refl;
         },
       )
         where
@@ -136,6 +192,7 @@ module _ (c : List Item) (good : IsGood c) where
           topics = λ t e. e;
           parts = λ y e. e;
           needs = λ other l need h. h;
+          selects = λ updates. absurd (subst (λ (n : Need). IsUpdating n.action) row.1 updates);
         },
       )
         where
@@ -170,16 +227,40 @@ module _ (c : List Item) (good : IsGood c) where
 
 -- ---- what it asks for
 
-module _ (l : List Item) (r s : Right) (system : r.grantor ≡ System) (is : IsBeside r s) (no_update : (need : Need) → IsUpdating r.need.action → Has l (IsObjectNeed l r need) → ⊥) where
-  right_need : (need : Need) → IsRightNeed l r r.grantor need → IsRightNeed l s s.grantor need
-  right_need need sought =
-      let h : Has l (IsObjectNeed l r need) = subst (λ a. IsRightNeed l r a need) system sought in
-      subst (λ a. IsRightNeed l s a need) (sym is.system) (is.needs (λ by. no_update need by h) l need h)
+module _ (l : List Item) (r s : Right) (system : r.grantor ≡ System) (is : IsBeside r s) (derived : (v : View) → Contains l (item.View v) → HasDerivedFields (item.View v))
+    (no_owner : (need : Need) (a : Auth) → IsUpdating r.need.action → Has l (IsObjectNeed l r need) → OwnsPath l r.need.on a → ⊥) where
+  object_needs : (need : Need) → IsRightNeed l r r.grantor need → Has l (IsObjectNeed l r need)
+  object_needs need sought = subst (λ a. IsRightNeed l r a need) system sought
+
+  own_need : (need : Need) → Has l (IsObjectNeed l s need) → IsRightNeed l s s.grantor need
+  own_need need h = subst (λ a. IsRightNeed l s a need) (sym is.system) h
+
+  -- a need that has all topics of this one
+  abbrev SeeksLike : Need → Type 0
+  SeeksLike need = (other : Need) × IsRightNeed l s s.grantor other × ((t : Topic) → IsNeedTopic need t → IsNeedTopic other t)
+
+  seeks_like : (need : Need) → IsRightNeed l r r.grantor need → SeeksLike need
+  seeks_like need sought = elim (updating_or_not r.need.action) [
+    | inl updates ↦ (let h = object_needs need sought in by updates h.0 h.1 h.2)
+    | inr other ↦ (need, own_need need (is.needs other l need (object_needs need sought)), λ t e. e)
+  ]
+    where
+      by : IsUpdating r.need.action → (y : Item) → Contains l y → IsObjectNeed l r need y → SeeksLike need
+      by updates (item.View v) h of =
+          let read = reads v (derived v h) l r.need.action r.need.column updates need of.1 in
+          (read.0, own_need read.0 (item.View v, h, (is.path ∙ of.0, subst (λ a. IsViewNeed l v a s.need.column read.0) (sym (is.selects updates)) read.1)), read.2)
+      by updates (item.Routine q) h of = absurd (subst (λ (n : Need). IsUpdating n.action) of.0 updates)
+      by updates _ h of = absurd of
+
+  owns : (a : Auth) → ActsInRight l r r.grantor a → OwnsPath l r.need.on a
+  owns a by = subst (λ g. ActsInRight l r g a) system by
 
   acts : (a : Auth) → ActsInRight l r r.grantor a → ActsInRight l s s.grantor a
-  acts a by =
-      let owns : OwnsPath l r.need.on a = subst (λ g. ActsInRight l r g a) system by in
-      subst (λ g. ActsInRight l s g a) (sym is.system) (subst (λ path. OwnsPath l path a) (sym is.path) owns)
+  acts a by = subst (λ g. ActsInRight l s g a) (sym is.system) (subst (λ path. OwnsPath l path a) (sym is.path) (owns a by))
+
+  -- where somebody acts
+  right_need : (need : Need) (a : Auth) → ActsInRight l r r.grantor a → IsRightNeed l r r.grantor need → IsRightNeed l s s.grantor need
+  right_need need a by sought = let h = object_needs need sought in own_need need (is.needs (λ updates. no_owner need a updates h (owns a by)) l need h)
 
   name_topic : (t : Topic) → IsRightTopic r t → IsRightTopic s t
   name_topic t (inl e) = inl (is.topics t e)
@@ -190,13 +271,16 @@ module _ (l : List Item) (r s : Right) (system : r.grantor ≡ System) (is : IsB
   far_topic t (inr (inl e)) = inr (inl (subst (λ a. IsAuthTopic a t) (sym is.grantee) e))
   far_topic t (inr (inr e)) = absurd (subst (λ a. IsAuthTopic a t) system e)
 
+  need_topic : (need : Need) (t : Topic) → IsRightNeed l r r.grantor need → IsNeedTopic need t → Asks l (item.Held s) t
+  need_topic need t sought e = let like = seeks_like need sought in of_need like.0 like.1 (like.2 t e)
+
   pub held_asks : (t : Topic) → Asks l (item.Held r) t → Asks l (item.Held s) t
   held_asks t (by_name e) = by_name (name_topic t e)
   held_asks t (by_far e) = by_far (far_topic t e)
   held_asks t (by_option e) = absurd e
-  held_asks t (of_need need sought e) = of_need need (right_need need sought) e
-  held_asks t (of_supply need a g sought by way e) = of_supply need a g (right_need need sought) (acts a by) way e
-  held_asks t (of_edges a name (by, inl sought) way e) = of_edges a name (acts a by, inl (sought.0, right_need sought.0 sought.1)) way e
+  held_asks t (of_need need sought e) = need_topic need t sought e
+  held_asks t (of_supply need a g sought by way e) = of_supply need a g (right_need need a by sought) (acts a by) way e
+  held_asks t (of_edges a name (by, inl sought) way e) = of_edges a name (acts a by, inl (sought.0, right_need sought.0 a by sought.1)) way e
   held_asks t (of_edges a name (by, inr grants) way e) = absurd grants
   held_asks t (of_admins a role name grants by way e) = absurd grants
 
@@ -204,8 +288,8 @@ module _ (l : List Item) (r s : Right) (system : r.grantor ≡ System) (is : IsB
   grantable_asks t (by_name e) = inl (by_name (name_topic t e))
   grantable_asks t (by_far e) = inl (by_far (far_topic t e))
   grantable_asks t (by_option e) = inr e
-  grantable_asks t (of_need need sought e) = inl (of_need need (right_need need sought) e)
-  grantable_asks t (of_supply need a g sought by way e) = inl (of_supply need a g (right_need need sought) (acts a by) way e)
-  grantable_asks t (of_edges a name (by, inl sought) way e) = inl (of_edges a name (acts a by, inl (sought.0, right_need sought.0 sought.1)) way e)
+  grantable_asks t (of_need need sought e) = inl (need_topic need t sought e)
+  grantable_asks t (of_supply need a g sought by way e) = inl (of_supply need a g (right_need need a by sought) (acts a by) way e)
+  grantable_asks t (of_edges a name (by, inl sought) way e) = inl (of_edges a name (acts a by, inl (sought.0, right_need sought.0 a by sought.1)) way e)
   grantable_asks t (of_edges a name (by, inr grants) way e) = absurd grants
   grantable_asks t (of_admins a role name grants by way e) = absurd grants

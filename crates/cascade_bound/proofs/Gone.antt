@@ -8,6 +8,7 @@ use Rattle.sql_names.specs.declared.object.Object.{Object}
 use Rattle.sql_tree.specs.declared.rights.Action.{Action}
 use Rattle.sql_tree.specs.declared.rights.Action.TheVariants as action
 use Rattle.cat_items.specs.declared.edit.Edit.{Edit}
+use Rattle.cat_items.specs.declared.need.Auth.{Auth}
 use Rattle.cat_items.specs.declared.need.Auth.TheVariants.{Named}
 use Rattle.cat_items.specs.declared.need.Need.{Need}
 use Rattle.cat_items.specs.declared.item.Right.{Right}
@@ -21,8 +22,9 @@ use Rattle.cat_items.specs.Fit.{HasNewKey, IsFit, IsRight}
 use Rattle.cat_items.specs.Good.{IsGood}
 use Rattle.cat_items.specs.Order.{item_cmp}
 use Rattle.cat_items.specs.Reach.{Has}
-use Rattle.cat_items.specs.Relevant.{IsBaseColumnNeed, IsBaseNeed, IsNeedOnColumn, IsObjectNeed, IsPartOfNeed, IsViewNeed, named}
+use Rattle.cat_items.specs.Relevant.{IsBaseColumnNeed, IsBaseNeed, IsNeedOnColumn, IsObjectNeed, IsOwnedSchema, IsPartOfNeed, IsViewNeed, Owns, OwnsPath, named}
 use Rattle.cat_items.specs.Rights.{HasColumn, IsSchema, path_of}
+use Rattle.cat_items.specs.Shape.{HasDerivedFields}
 use Rattle.cat_items.specs.Supported.{IsHeld}
 use Rattle.cat_items.specs.Survivors.{IsSystemRight, MayBeSystemRight, MayBeSystemSchema, MayBeViewRow}
 use Rattle.cat_items.proofs.KeyLemmas.{same_key}
@@ -30,7 +32,6 @@ use Rattle.cascade_laws.specs.Asks.{Asks}
 use Rattle.cascade_laws.specs.Topics.{Topic, held}
 use Rattle.cascade_laws.proofs.Spread.{IsFirst, row_object}
 use Rattle.look_up_bound.proofs.OneKey.{one_schema}
-use Rattle.cascade_bound.specs.Missing.{MissesNothing}
 use Rattle.cascade_bound.proofs.Beside.{beside, grantable_asks, held_asks}
 use Rattle.cascade_bound.proofs.Counted.{IsGone}
 use Rattle.cascade_bound.proofs.SystemAsking.{IsUpdating}
@@ -97,7 +98,7 @@ new_name c z new y h is =
     let same : item_cmp (item.Schema y) (item.Schema z) ≡ Equal = subst (λ n. item_cmp (item.Schema y) (item.Schema (record { name = n; owner = z.owner })) ≡ Equal) is (same_key (item.Schema y)) in
     new h.0 (h.1, λ d. subst (λ w. item_cmp w (item.Schema z) ≡ Equal) (sym h.2 ∙ get_or_default c h.0 (item.Schema y) d h.1) same)
 
-module _ (c edited : List Item) (edit : Edit) (good : IsGood c) (fit : IsFit c edit edited) (most : ℕ) (b : IsBound c edit edited most) (misses : MissesNothing b.u edited edit) where
+module _ (c edited : List Item) (edit : Edit) (good : IsGood c) (fit : IsFit c edit edited) (most : ℕ) (b : IsBound c edit edited most) where
   abbrev u : List Item
   u = b.u
 
@@ -112,14 +113,28 @@ module _ (c edited : List Item) (edit : Edit) (good : IsGood c) (fit : IsFit c e
   ]
 
   module _ (part : List Item) (inside : (y : Item) → Contains part y → Contains edited y ⊎ IsRight y) where
-    -- a right that changes a view of the part could be granted still
-    module _ (r : Right) (may : MayBeSystemRight c r) (need : Need) (updates : IsUpdating r.need.action) where
+    derived : (v : View) → Contains part (item.View v) → HasDerivedFields (item.View v)
+    derived v h = elim (inside (item.View v) h) [
+      | inl here ↦ elim ((fit.is_edited.members (item.View v)).0 here) [ inl old ↦ good.shape.derived (item.View v) old.0 | inr added ↦ fit.derived (item.View v) added ]
+      | inr right ↦ absurd right
+    ]
+
+    -- a right that changes a view of the part, whose schema the part has, could be granted still
+    module _ (r : Right) (may : MayBeSystemRight c r) (need : Need) (updates : IsUpdating r.need.action) (a : Auth) (owns : OwnsPath part r.need.on a) where
+      schema_there : (v : View) → r.need.on ≡ path_of v.view → Has edited (IsSchema v.view.schema)
+      schema_there v path = let h : Owns part v.view.schema a = subst (λ p. OwnsPath part p a) path owns in by h.0 h.1 h.2
+        where
+          by : (y : Item) → Contains part y → IsOwnedSchema v.view.schema a y → Has edited (IsSchema v.view.schema)
+          by (item.Schema z) h is = elim (inside (item.Schema z) h) [ inl here ↦ (item.Schema z, here, is.0) | inr right ↦ absurd right ]
+          by _ h is = absurd is
+
       on_view : (v : View) → Contains edited (item.View v) → r.need.on ≡ path_of v.view → IsViewNeed part v r.need.action r.need.column need → MayBeSystemRight edited r
-      on_view v hv path is = (
-        may.0,
-        subst (λ p. HasColumn edited p r.need.column) (sym path) (view_column part edited inside v need r.need.action r.need.column updates is),
-        schema (misses.schemas v hv).0 (misses.schemas v hv).1 (misses.schemas v hv).2 may.2.0 may.2.1 may.2.2,
-      )
+      on_view v hv path is =
+          let there = schema_there v path in (
+            may.0,
+            subst (λ p. HasColumn edited p r.need.column) (sym path) (view_column part edited inside v need r.need.action r.need.column updates is),
+            schema there.0 there.1 there.2 may.2.0 may.2.1 may.2.2,
+          )
         where
           row : MayBeViewRow r.need.action r.need.column v.base
           row = let base = view_base part v r.need.action r.need.column need updates is in subst (MayBeViewRow r.need.action r.need.column) (sym base.1) (base_row part v r.need.action r.need.column need base.0 updates is)
@@ -144,9 +159,9 @@ module _ (c edited : List Item) (edit : Edit) (good : IsGood c) (fit : IsFit c e
       may : MayBeSystemRight c r
       may = elim gone.paid.pays.is [ inl e ↦ subst (IsSystemRight c) e gone.possible | inr e ↦ subst (IsSystemRight c) e gone.possible ]
 
-      no_update : (need : Need) → IsUpdating r.need.action → Has part (IsObjectNeed part r need) → ⊥
-      no_update need updates h =
-          let after = on_object r may need updates h.0 h.1 h.2 in
+      no_owner : (need : Need) (a : Auth) → IsUpdating r.need.action → Has part (IsObjectNeed part r need) → OwnsPath part r.need.on a → ⊥
+      no_owner need a updates h owns =
+          let after = on_object r may need updates a owns h.0 h.1 h.2 in
           let still : IsSystemRight edited x = elim gone.paid.pays.is [ inl e ↦ subst (IsSystemRight edited) (sym e) after | inr e ↦ subst (IsSystemRight edited) (sym e) after ] in
           gone.out ((b.spoken_of.members x).1 (inr (inr still)))
 
@@ -162,8 +177,8 @@ module _ (c edited : List Item) (edit : Edit) (good : IsGood c) (fit : IsFit c e
           let there = within (item.Held s) other.1 in
           let suspect : IsSuspect u edit (item.Held s) = bound.spread gone.paid.payer (item.Held s) gone.paid.suspect (within gone.paid.payer pays.stands) there (named (inl (other.2.parts gone.paid.payer pays.is_part))) in
           elim pays.is [
-            | inl e ↦ inl (item.Held s, other.1, suspect, held_asks part r s pays.by_system other.2 no_update t (subst (λ y. Asks part y t) e asks))
-            | inr e ↦ (elim (grantable_asks part r s pays.by_system other.2 no_update t (subst (λ y. Asks part y t) e asks)) [
+            | inl e ↦ inl (item.Held s, other.1, suspect, held_asks part r s pays.by_system other.2 derived no_owner t (subst (λ y. Asks part y t) e asks))
+            | inr e ↦ (elim (grantable_asks part r s pays.by_system other.2 derived no_owner t (subst (λ y. Asks part y t) e asks)) [
               | inl same ↦ inl (item.Held s, other.1, suspect, same)
               | inr option ↦ inr option
             ])

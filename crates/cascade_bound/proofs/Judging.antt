@@ -85,7 +85,7 @@ rights_at_most (item.Column k) = omega arith
 rights_at_most (item.Routine r) = omega arith
 rights_at_most _ = omega arith
 
-module _ (g : Graph Item) (c edited : List Item) (edit : Edit) (marks own : List ℕ) (on : AreTouchedOn g c edit marks own) (good : IsGood c) (fit : IsFit c edit edited) (most : ℕ) (b : IsBound c edit edited most) (misses : MissesNothing b.u edited edit) where
+module _ (g : Graph Item) (c edited : List Item) (edit : Edit) (marks own : List ℕ) (on : AreTouchedOn g c edit marks own) (good : IsGood c) (fit : IsFit c edit edited) (most : ℕ) (b : IsBound c edit edited most) (misses : MissesNothing b.u edit) where
   abbrev u : List Item
   u = b.u
 
@@ -217,7 +217,7 @@ module _ (g : Graph Item) (c edited : List Item) (edit : Edit) (marks own : List
       within = inside_within;
       concerns = λ y h. inside_concerns y ((are_inside y).0 h);
       needs = λ y need h is. needed_stands u c edited edit good fit within misses y need ((b.spoken_of.members y).0 (inside_within y h)) is;
-      asked = λ x t h asks. misses.added x t h (asks_more inside u inside_within x t asks);
+      asked = λ x t h asks. misses x t h (asks_more inside u inside_within x t asks);
     }
 
     -- ---- what is asked for
@@ -226,7 +226,7 @@ module _ (g : Graph Item) (c edited : List Item) (edit : Edit) (marks own : List
     counted_asks : (x : Item) (t : Topic) → Counted x → Asks part x t → ((y : Item) × IsSuspect u edit y × Asks inside y t) ⊎ ((gone : IsGone u c edit x) × (t ≡ held gone.paid.pays.right))
     counted_asks x t is asks = elim (which x is) [
       | inl at ↦ inl (x, at.1, asks_inside x t asks)
-      | inr gone ↦ (elim (gone_asks c edited edit good fit most b misses part part_edited x gone t asks) [
+      | inr gone ↦ (elim (gone_asks c edited edit good fit most b part part_edited x gone t asks) [
         | inl other ↦ inl (other.0, other.2, asks_inside other.0 t other.3)
         | inr option ↦ inr (gone, option)
       ])
@@ -235,7 +235,7 @@ module _ (g : Graph Item) (c edited : List Item) (edit : Edit) (marks own : List
     asked_close : (x y : Item) (t : Topic) → Counted x → IsKept g c marks y → Asks part x t → IsUnder t y → Contains close y
     asked_close x y t is kept asks under = elim (counted_asks x t is asks) [
       | inl by ↦ close_relevant by.0 y by.1 (within y kept.0) (under_asked u by.0 y t (asks_more inside u inside_within by.0 t by.2) under)
-      | inr option ↦ close_suspect y (gone_held c edited edit good fit most b misses part part_edited x option.0 y (within y kept.0) (subst (λ s. IsUnder s y) option.1 under))
+      | inr option ↦ close_suspect y (gone_held c edited edit good fit most b part part_edited x option.0 y (within y kept.0) (subst (λ s. IsUnder s y) option.1 under))
     ]
 
     is_part : IsPartOf g c marks counted part

@@ -47,7 +47,7 @@ module _ (u : List Item) where
   need_stands : (need : Need) → need.action ≢ action.Admin → ((t : Topic) → IsNeedTopic need t → HasParts u t) → Stands u need
   need_stands need other has = (object_stands need.action other need.on (λ t e. has t (inl e)), column_stands need.on need.column (λ t e. has t (inr e)))
 
-  module _ (c edited : List Item) (edit : Edit) (good : IsGood c) (fit : IsFit c edit edited) (within : IsWithin c u) (misses : MissesNothing u edited edit) where
+  module _ (c edited : List Item) (edit : Edit) (good : IsGood c) (fit : IsFit c edit edited) (within : IsWithin c u) (misses : MissesNothing u edit) where
     supported : (x : Item) → Contains c x → Supported good.all c x
     supported x h = survivor_supported good.all c good.survivors x h
 
@@ -63,8 +63,8 @@ module _ (u : List Item) where
     old_stands _ need h is = absurd is
 
     added_stands : (y : Item) (need : Need) → Contains edit.added y → IsNeededBy y need → Stands u need
-    added_stands (item.View v) need h is = need_stands need (tree_needs_ordinary (item.View v) (fit.derived (item.View v) h) need is) (λ t e. misses.added (item.View v) t h (of_need need is e))
-    added_stands (item.Routine z) need h is = need_stands need (tree_needs_ordinary (item.Routine z) (fit.derived (item.Routine z) h) need is) (λ t e. misses.added (item.Routine z) t h (of_need need is e))
+    added_stands (item.View v) need h is = need_stands need (tree_needs_ordinary (item.View v) (fit.derived (item.View v) h) need is) (λ t e. misses (item.View v) t h (of_need need is e))
+    added_stands (item.Routine z) need h is = need_stands need (tree_needs_ordinary (item.Routine z) (fit.derived (item.Routine z) h) need is) (λ t e. misses (item.Routine z) t h (of_need need is e))
     added_stands _ need h is = absurd is
 
     possible_needs : (y : Item) (need : Need) → IsSystemRight edited y → IsNeededBy y need → Stands u need

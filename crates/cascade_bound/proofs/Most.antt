@@ -75,7 +75,7 @@ right_share e = 20 * some e.1 + 20 * length e.1
 abbrev pub judging_share : Item × List Item → ℕ
 judging_share e = 9 + ask_share e + right_share e
 
-module _ (c edited u : List Item) (edit : Edit) (good : IsGood c) (fit : IsFit c edit edited) (spoken : (x : Item) → IsSpokenOf c edit edited x → Contains u x) (misses : MissesNothing u edited edit) where
+module _ (c edited u : List Item) (edit : Edit) (good : IsGood c) (fit : IsFit c edit edited) (spoken : (x : Item) → IsSpokenOf c edit edited x → Contains u x) (misses : MissesNothing u edit) where
   within : IsWithin c u
   within y h = spoken y (inl h)
 

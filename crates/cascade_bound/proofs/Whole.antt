@@ -80,7 +80,7 @@ rest e = 20 + come_share e + judging_share e
 abbrev IsOwed : List Item → Item → Item → Type 0
 IsOwed c p y = IsSystemRight c y × (¬ (Contains c y)) × IsPaidBy c p y
 
-module _ (g : Graph Item) (c edited : List Item) (edit : Edit) (marks own : List ℕ) (on : AreTouchedOn g c edit marks own) (good : IsGood c) (fit : IsFit c edit edited) (most : ℕ) (b : IsBound c edit edited most) (misses : MissesNothing b.u edited edit) where
+module _ (g : Graph Item) (c edited : List Item) (edit : Edit) (marks own : List ℕ) (on : AreTouchedOn g c edit marks own) (good : IsGood c) (fit : IsFit c edit edited) (most : ℕ) (b : IsBound c edit edited most) (misses : MissesNothing b.u edit) where
   abbrev u : List Item
   u = b.u
 

@@ -4,14 +4,12 @@ use Rattle.std.specs.List.{Contains}
 use Rattle.finite_chains.specs.Chains.{IsWithin}
 use Rattle.cat_items.specs.declared.edit.Edit.{Edit}
 use Rattle.cat_items.specs.declared.need.Need.{Need}
-use Rattle.cat_items.specs.declared.item.View.{View}
 use Rattle.cat_items.specs.declared.item.Item.{Item}
 use Rattle.cat_items.specs.declared.item.Item.TheVariants as item
 use Rattle.cat_items.specs.Bound.{IsSuspect}
 use Rattle.cat_items.specs.Catalogues.{IsInOrder}
-use Rattle.cat_items.specs.Reach.{Has}
 use Rattle.cat_items.specs.Relevant.{Relevant}
-use Rattle.cat_items.specs.Rights.{IsSchema, Stands}
+use Rattle.cat_items.specs.Rights.{Stands}
 use Rattle.cascade_laws.specs.Asks.{Asks}
 use Rattle.cascade_laws.specs.Topics.{Topic}
 use Rattle.look_up_bound.specs.TopicParts.{HasParts}
@@ -35,7 +33,6 @@ pub record LacksNothing (u part : List Item) (edit : Edit) : Type 0 where
   pub needs : NeedsStand u part
   pub asked : (x : Item) (t : Topic) → Contains edit.added x → Asks part x t → HasParts u t
 
--- Nothing is missing: what the added items ask for stands among what is spoken of, and the views of the edited list have their schemas.
-pub record MissesNothing (u edited : List Item) (edit : Edit) : Type 0 where
-  pub added : (x : Item) (t : Topic) → Contains edit.added x → Asks u x t → HasParts u t
-  pub schemas : (v : View) → Contains edited (item.View v) → Has edited (IsSchema v.view.schema)
+-- Nothing is missing: what the added items ask for stands among what is spoken of.
+abbrev pub MissesNothing : List Item → Edit → Type 0
+MissesNothing u edit = (x : Item) (t : Topic) → Contains edit.added x → Asks u x t → HasParts u t

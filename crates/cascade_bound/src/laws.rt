@@ -147,12 +147,12 @@ pub fn what_is_touched_can_be_told_from_topics()
 /// Where nothing is missing, all that it takes to make an edit ready is within its bound: what it touches is found, its keys are read, and its suspects are
 /// judged (`judged`), then the plan is made (`planned`), and what goes out is read with its links (`made`).
 pub fn what_an_edit_takes_is_within_the_bound()
-    ensures judged { (g : Graph Item) (c edited : List Item) (edit : Edit) (marks own : List ℕ) (bound : ℕ) → AreTouchedOn g c edit marks own → IsGood c → IsFit c edit edited → (b : IsBound c edit edited bound) → MissesNothing b.u edited edit
+    ensures judged { (g : Graph Item) (c edited : List Item) (edit : Edit) (marks own : List ℕ) (bound : ℕ) → AreTouchedOn g c edit marks own → IsGood c → IsFit c edit edited → (b : IsBound c edit edited bound) → MissesNothing b.u edit
         → (spent : ℕ) → JudgesWithin g c edit marks spent → seed_look_ups edit + sum_by (look_ups g.dependents) marks + length marks + spent ≤ bound }
-    ensures planned { (g : Graph Item) (c edited f new : List Item) (edit : Edit) (marks own : List ℕ) (fresh : List Item) (arrivals : List Arrival) (bound : ℕ) → AreTouchedOn g c edit marks own → IsGood c → IsFit c edit edited → (b : IsBound c edit edited bound) → MissesNothing b.u edited edit
+    ensures planned { (g : Graph Item) (c edited f new : List Item) (edit : Edit) (marks own : List ℕ) (fresh : List Item) (arrivals : List Arrival) (bound : ℕ) → AreTouchedOn g c edit marks own → IsGood c → IsFit c edit edited → (b : IsBound c edit edited bound) → MissesNothing b.u edit
         → IsWithSystem edited f → AreFresh c edited fresh → AreSurvivors f new → AreArrivals new (is_suspect g marks edit.added fresh) arrivals → (spent : ℕ) → JudgesWithin g c edit marks spent
         → seed_look_ups edit + sum_by (look_ups g.dependents) marks + length marks + spent + sum_by (leaving.look_ups g marks) marks + sum_by (λ a. length (links_by a)) arrivals ≤ bound }
-    ensures made { (g : Graph Item) (c edited f new : List Item) (edit : Edit) (marks own out : List ℕ) (fresh : List Item) (arrivals : List Arrival) (bound : ℕ) → AreTouchedOn g c edit marks own → AreOutgoing g marks out → IsGood c → IsFit c edit edited → (b : IsBound c edit edited bound) → MissesNothing b.u edited edit
+    ensures made { (g : Graph Item) (c edited f new : List Item) (edit : Edit) (marks own out : List ℕ) (fresh : List Item) (arrivals : List Arrival) (bound : ℕ) → AreTouchedOn g c edit marks own → AreOutgoing g marks out → IsGood c → IsFit c edit edited → (b : IsBound c edit edited bound) → MissesNothing b.u edit
         → IsWithSystem edited f → AreFresh c edited fresh → AreSurvivors f new → AreArrivals new (is_suspect g marks edit.added fresh) arrivals → (spent : ℕ) → JudgesWithin g c edit marks spent
         → seed_look_ups edit + sum_by (look_ups g.dependents) marks + length marks + spent + sum_by (leaving.look_ups g marks) marks + sum_by (λ a. length (links_by a)) arrivals + sum_by (λ n. 1 + look_ups_with g n) out ≤ bound }
 {}

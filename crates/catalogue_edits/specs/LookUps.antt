@@ -17,4 +17,4 @@ pub record HasEdit (c : List Item) (who : Who) (statement : Statement) (edit : E
 
 -- where nothing is missing, no more look-ups than the bound of the edit
 abbrev pub TakesFew : List Item → Edit → ℕ → ℕ → Type 0
-TakesFew c edit before after = (edited : List Item) (bound : ℕ) (b : IsBound c edit edited bound) → IsFit c edit edited → MissesNothing b.u edited edit → after ≤ before + bound
+TakesFew c edit before after = (edited : List Item) (bound : ℕ) (b : IsBound c edit edited bound) → IsFit c edit edited → MissesNothing b.u edit → after ≤ before + bound

@@ -30,12 +30,12 @@ use Rattle.tree_needs.proofs.MentionEquations.{mentions_Chain, mentions_Query, m
 
 -- ---- the table of a plain query
 
-has_base : (o : Option Base) (base : Object) (columns : List NameBytes) → HasBase o (Some base) columns → (plain : Base) × (o ≡ Some plain) × (plain.table ≡ base)
+pub has_base : (o : Option Base) (base : Object) (columns : List NameBytes) → HasBase o (Some base) columns → (plain : Base) × (o ≡ Some plain) × (plain.table ≡ base) × (columns ≡ plain.columns)
 has_base None base columns h = let odd : Some base ≡ None = h.0 in absurd (cc odd)
-has_base (Some plain) base columns (inl h) = let e : Some base ≡ Some plain.table = h.1 in let same : plain.table ≡ base = cc e in (plain, refl, same)
+has_base (Some plain) base columns (inl h) = let e : Some base ≡ Some plain.table = h.1 in let same : plain.table ≡ base = cc e in (plain, refl, same, h.2)
 has_base (Some plain) base columns (inr h) = let odd : Some base ≡ None = h.1 in absurd (cc odd)
 
-if_some : {X : Type 0} (b : Bool) (o : Option X) (x : X) → (if b then o else None) ≡ Some x → o ≡ Some x
+pub if_some : {X : Type 0} (b : Bool) (o : Option X) (x : X) → (if b then o else None) ≡ Some x → o ≡ Some x
 if_some true o x e = e
 if_some false o x e = absurd (cc e)
 
@@ -45,13 +45,13 @@ plain_some false true (g ∷ groups) o plain e = absurd (cc e)
 plain_some false false groups o plain e = absurd (cc e)
 plain_some true simple groups o plain e = absurd (cc e)
 
-from_some : (tables : List (Option Object)) (columns : Option (List NameBytes)) (plain : Base) → base_from tables columns ≡ Some plain → tables ≡ Some plain.table ∷ []
+from_some : (tables : List (Option Object)) (columns : Option (List NameBytes)) (plain : Base) → base_from tables columns ≡ Some plain → (tables ≡ Some plain.table ∷ []) × (columns ≡ Some plain.columns)
 from_some [] columns plain e = absurd (cc e)
 from_some (None ∷ tables) columns plain e = absurd (cc e)
 from_some (Some table ∷ []) None plain e = absurd (cc e)
 from_some (Some table ∷ []) (Some columns) plain e =
     let same : record { table = table; columns = columns } ≡ plain = cc e in
-    ap (λ (b : Base). Some b.table ∷ []) same
+    (ap (λ (b : Base). Some b.table ∷ []) same, ap (λ (b : Base). Some b.columns) same)
 from_some (Some table ∷ other ∷ tables) columns plain e = absurd (cc e)
 
 qualified : (name : ObjectName) (o : Object) → object_of name ≡ Some o → name ≡ Qualified o
@@ -63,15 +63,16 @@ one_chain [] table e = absurd (cc e)
 one_chain (chain ∷ []) table e = let same : chain_base chain ≡ Some table = cc e in (chain, refl, same)
 one_chain (chain ∷ other ∷ chains) table e = absurd (cc e)
 
--- a plain query's FROM has this one table
-one_table : (q : Query) (plain : Base) → base_of q ≡ Some plain → (chain : Chain) × ((out-Select (out-Query q).first).from ≡ chain ∷ []) × ((out-Chain chain).first.table ≡ Qualified plain.table)
+-- a plain query's FROM has this one table, and each of its items is a column
+pub one_table : (q : Query) (plain : Base) → base_of q ≡ Some plain → (chain : Chain) × ((out-Select (out-Query q).first).from ≡ chain ∷ []) × ((out-Chain chain).first.table ≡ Qualified plain.table) × (select_list_base (out-Select (out-Query q).first).list ≡ Some plain.columns)
 one_table q plain e =
     let select = (out-Query q).first in
     let of_select : select_base select ≡ Some plain = if_some (length (out-Query q).others == 0) (select_base select) plain (sym (base_Query q) ∙ e) in
     let of_from = plain_some (out-Select select).distinct (optional_simple (option_map expr_base (out-Select select).filter)) (out-Select select).group_by (base_from (map chain_base (out-Select select).from) (select_list_base (out-Select select).list)) plain (sym (base_Select select) ∙ of_select) in
-    let one = one_chain (out-Select select).from plain.table (from_some (map chain_base (out-Select select).from) (select_list_base (out-Select select).list) plain of_from) in
+    let parts = from_some (map chain_base (out-Select select).from) (select_list_base (out-Select select).list) plain of_from in
+    let one = one_chain (out-Select select).from plain.table parts.0 in
     let object = if_some (length (out-Chain one.0).joins == 0) (object_of (out-Chain one.0).first.table) plain.table (sym (base_Chain one.0) ∙ one.2) in
-    (one.0, one.1, qualified (out-Chain one.0).first.table plain.table object)
+    (one.0, one.1, qualified (out-Chain one.0).first.table plain.table object, parts.1)
 
 -- ---- what mentions it
 
@@ -114,19 +115,32 @@ module _ (o : Object) (tables : List ObjectName) where
             ))
       ]
 
-mentioned : (q : Query) (plain : Base) → base_of q ≡ Some plain → (n : Mention) × Contains (query_mentions q) n × IsOf plain.table n
-mentioned q plain e =
+-- what the parts of a SELECT mention
+abbrev pub body_of : Query → Mentions
+body_of q =
+    let select = (out-Query q).first in
+    select_list_mentions (out-Select select).list ++ flat_map (λ c. c.1) (map chain_mentions (out-Select select).from) ++ optional_mentions (option_map expr_mentions (out-Select select).filter) ++ flat_map reference_mentions (out-Select select).group_by
+
+-- what these mention, seen from outside, the query mentions
+pub in_query : (q : Query) (plain : Base) → base_of q ≡ Some plain → (names : List ObjectName) × ((n : Mention) → Contains (closed_mentions (Qualified plain.table ∷ names) (body_of q)) n → Contains (query_mentions q) n)
+in_query q plain e =
     let select = (out-Query q).first in
     let one = one_table q plain e in
     let chains = (out-Select select).from in
-    let body = select_list_mentions (out-Select select).list ++ flat_map (λ c. c.1) (map chain_mentions chains) ++ optional_mentions (option_map expr_mentions (out-Select select).filter) ++ flat_map reference_mentions (out-Select select).group_by in
     let names : List ObjectName = map (λ j. j.0) (map join_mentions (out-Chain one.0).joins) in
     let first : (chain_mentions one.0).0 ≡ Qualified plain.table ∷ names = ap (λ c. c.0) (mentions_Chain one.0) ∙ ap (λ t. t ∷ names) one.2 in
-    let tables : flat_map (λ c. c.0) (map chain_mentions chains) ≡ Qualified plain.table ∷ (names ++ []) = ap (λ cs. flat_map (λ c. c.0) (map chain_mentions cs)) one.1 ∙ ap (λ ts. ts ++ []) first in
-    let found = closed plain.table (names ++ []) body in
-    let in_select : Contains (select_mentions select) found.0 = subst (λ ms. Contains ms found.0) (sym (mentions_Select select ∙ ap (λ ts. closed_mentions ts body) tables)) found.1 in
-    let in_query = subst (λ ms. Contains ms found.0) (sym (mentions_Query q)) (Contains-append_left (select_mentions select) (all_mentions (map further_mentions (out-Query q).others)) found.0 in_select) in
-    (found.0, in_query, found.2)
+    let tables : flat_map (λ c. c.0) (map chain_mentions chains) ≡ Qualified plain.table ∷ (names ++ []) = ap (λ cs. flat_map (λ c. c.0) (map chain_mentions cs)) one.1 ∙ ap (λ ts. ts ++ []) first in (
+      names ++ [],
+      λ n h.
+          let in_select : Contains (select_mentions select) n = subst (λ ms. Contains ms n) (sym (mentions_Select select ∙ ap (λ ts. closed_mentions ts (body_of q)) tables)) h in
+          subst (λ ms. Contains ms n) (sym (mentions_Query q)) (Contains-append_left (select_mentions select) (all_mentions (map further_mentions (out-Query q).others)) n in_select),
+    )
+
+mentioned : (q : Query) (plain : Base) → base_of q ≡ Some plain → (n : Mention) × Contains (query_mentions q) n × IsOf plain.table n
+mentioned q plain e =
+    let inside = in_query q plain e in
+    let found = closed plain.table inside.0 (body_of q) in
+    (found.0, inside.1 found.0 found.1, found.2)
 
 -- ---- and so is needed
 

@@ -1,2 +1,3 @@
 pub mod BaseNeeds
+pub mod ColumnNeeds
 pub mod FlatMembers

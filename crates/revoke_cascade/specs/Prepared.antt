@@ -82,4 +82,4 @@ pub record IsOutcome (g : Graph Item) (c : List Item) (edit : Edit) (new : List 
 
 -- this is the bound of the edit, and nothing is missing
 abbrev pub IsMeasured : List Item → List Item → Edit → ℕ → Type 0
-IsMeasured c edited edit bound = (b : IsBound c edit edited bound) × MissesNothing b.u edited edit
+IsMeasured c edited edit bound = (b : IsBound c edit edited bound) × MissesNothing b.u edit

@@ -36,8 +36,8 @@ pub struct Taken {
 
 impl Cascade {
     /// Finds what an edit does to a catalogue, and takes all memory that it takes to carry it out on its board, and to take it back. The
-    /// board stays as it is, but for more room. Where nothing is missing that the added items ask for, and each view keeps its schema, it takes no
-    /// more look-ups than the bound of the edit. `Err` is want of memory.
+    /// board stays as it is, but for more room. Where nothing is missing that the added items ask for, it takes no more look-ups than the bound of
+    /// the edit. `Err` is want of memory.
     pub fn prepare<L: Ledger>(
         alloc: Global,
         board: &mut Board,
@@ -52,7 +52,7 @@ impl Cascade {
         ensures grown { (board.old.spare_keys ≤ board.new.spare_keys) × (board.old.spare_links ≤ board.new.spare_links) }
         ensures held { Holds board.new c.now.items }
         ensures cascade { IfOk result (λ cascade. (new : List Item) × IsCascade board.new c.now.items edit.now new cascade) }
-        ensures few { (edited : List Item) (bound : ℕ) (b : IsBound c.now.items edit.now edited bound) → IsFit c.now.items edit.now edited → MissesNothing b.u edited edit.now → steps.new ≤ steps.old + bound }
+        ensures few { (edited : List Item) (bound : ℕ) (b : IsBound c.now.items edit.now edited bound) → IsFit c.now.items edit.now edited → MissesNothing b.u edit.now → steps.new ≤ steps.old + bound }
     {
         let prepared = board.prepare(alloc, edit, steps)?;
         let effects = effects_of(alloc, c, edit, &prepared.suspects, &prepared.found)?;
