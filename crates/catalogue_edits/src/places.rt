@@ -10,7 +10,7 @@ use own_places::OwnPlaces;
 use std::alloc::{AllocError, Global};
 
 /// Where each authorization has rights or owns, and how many items may come before this is found anew: what is gone is listed still, so
-/// there are never more than two places an item, and some.
+/// there are never more than two places for each item that there was then, and some.
 #[derive(Drop)]
 pub struct KnownPlaces {
     pub places: OwnPlaces,
