@@ -167,7 +167,7 @@ impl Store {
         }
     }
 
-    /// Where each authorization has rights or owns, if that is known: an edit keeps it so. It takes no memory.
+    /// Where each authorization has rights or owns, if that is known: as long as no edit let go of it. It takes no memory.
     pub fn places(&self) -> Option<&OwnPlaces>
         ensures { IfSome result (λ places. HasPlaces self.now places.now) }
     {

@@ -43,7 +43,7 @@ impl From<AllocError> for InfoError {
 /// The answer to a SELECT from a view of the Information Schema, for the user and the role of a session (SQL:2003 part 11, 5).
 ///
 /// Rows are in order and each once before the tests and the choice of columns, so an answer may have equal rows. Where the places of the
-/// catalogue are known, it looks at no more than the session may see; the answer is the same.
+/// catalogue are known and those of the session are few, a view of neither rights nor roles is answered by a look at these alone. The answer is the same.
 pub fn answer(
     alloc: Global,
     c: &Catalogue,

@@ -1,11 +1,10 @@
 -- What is listed once a list has changed.
-use Rattle.std.proofs.Common.{◌≡◌, ◌⊎◌, ◌<◌, ◌+◌, ℕ, add-one, inl, inr, length, take, drop, get_or, Bool, true, false, cond, List, [], ◌∷◌, Some, refl, ap, sym, subst, ◌∙◌}
+use Rattle.std.proofs.Common.{◌≡◌, ◌⊎◌, ◌<◌, ◌+◌, ℕ, add-one, inl, inr, length, take, get_or, Bool, true, false, cond, List, [], ◌∷◌, Some, refl, ap, sym, subst, ◌∙◌}
 use Rattle.std.specs.BTreeMap.{get, get_by, is_at, UpdatesBy}
 use Rattle.std.specs.Cmp.Lexicographic.{slice_cmp}
 use Rattle.std.specs.FinMap.{slice_cmp-IsAntisymmetric}
-use Rattle.std.specs.List.{Contains, insert}
+use Rattle.std.specs.List.{Contains}
 use Rattle.std.proofs.Math.Seq.{take-suc}
-use Rattle.std.proofs.lemmas.List.{take-append-drop}
 use Rattle.std.proofs.lemmas.List.Elements.{Contains-push_cases}
 use Rattle.std.specs.Ordering.{is_eq}
 use Rattle.std.specs.declared.alloc.Global.{Global}
@@ -15,7 +14,6 @@ use Rattle.std.specs.Prelude.{Vec}
 use Rattle.finite_chains.specs.Chains.{IsWithin}
 use Rattle.sql_names.specs.NameBytes.{PathNames}
 use Rattle.sql_names.specs.Names.{name_cmp-IsAntisymmetric}
-use Rattle.cat_items.proofs.Rising.{Contains-insert}
 use Rattle.cat_items.specs.Order.{name_cmp}
 use Rattle.cat_items.specs.contracts.need.AuthOrd.TheImpl as order
 use Rattle.cat_items.specs.contracts.need.AuthOrd.TheImpl.Laws as laws
@@ -27,10 +25,7 @@ use Rattle.cat_items.specs.declared.item.Item.TheVariants as item
 use Rattle.own_places.specs.Places.{HasPlaces, HasPlacesOf, Keeps, listed, places_at}
 use Rattle.own_places.specs.declared.places.OwnPlaces.{OwnPlaces}
 
--- a path that is put in at a place
-pub in_insert : (paths : List PathNames) (on : PathNames) (at : ℕ) (other : PathNames) → Contains paths other ⊎ (other ≡ on) → Contains (insert paths at on) other
-in_insert paths on at other = subst (λ l. Contains l other ⊎ (other ≡ on) → Contains (insert paths at on) other) (take-append-drop at paths) (Contains-insert (take at paths) (drop at paths) on other).1
-
+-- a search found it
 pub found_path : (paths : List PathNames) (on : PathNames) (at : ℕ) → at < length paths → slice_cmp name_cmp (get_or paths at on) on ≡ Equal → Contains paths on
 found_path paths on at low found = (at, low, slice_cmp-IsAntisymmetric name_cmp-IsAntisymmetric (get_or paths at on) on found)
 

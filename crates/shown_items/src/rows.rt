@@ -89,7 +89,8 @@ fn put_items(
 
 /// The rows of a table, of what is shown of a catalogue to one who looks at it: in order, and each once. `Err` is want of memory.
 ///
-/// The places of the catalogue, where these are known, let it look at no more than a session may see.
+/// Where the places of the catalogue are known and those of a session are few, the rows of a table of neither rights nor roles are found by a look at
+/// these alone.
 pub fn table_rows(
     alloc: Global,
     c: &Catalogue,
