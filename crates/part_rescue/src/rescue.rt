@@ -38,7 +38,7 @@ fn clear(alloc: Global, part: &Catalogue, suspects: &Catalogue) -> Result<Marks,
 }
 
 /// Marks what stands of a part that has these suspects: first what is no suspect, and then what the marked items support, until they support nothing
-/// more. `Err` is want of memory; the marks alone take it.
+/// more. `Err` is want of memory: the marks take it, and a list of the part's grant options.
 pub fn rescued(
     alloc: Global,
     part: &Catalogue,
@@ -51,7 +51,7 @@ pub fn rescued(
     ensures room { walk.new ≡ walk.old }
 {
     let mut marks = clear(alloc, part, suspects)?;
-    mark_supported(part, &mut marks, walk);
+    mark_supported(alloc, part, &mut marks, walk)?;
     Ok(marks)
 }
 

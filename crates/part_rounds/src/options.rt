@@ -7,14 +7,16 @@ ghost use Rattle.cat_items.specs.declared.item.Item.TheVariants as item;
 ghost use Rattle.cat_items.specs.declared.item.Right.{Right};
 ghost use Rattle.cat_items.specs.declared.need.Auth.TheVariants as auth;
 ghost use Rattle.cat_items.specs.Supported.{Supported};
-ghost use Rattle.role_graph.specs.Judges.{counting};
 ghost use Rattle.role_graph.specs.Marked.{marked};
 ghost use Rattle.role_graph.specs.Roles.{IsRoomFor};
+ghost use Rattle.part_rounds.specs.Grantees.{AreListed};
 ghost use Rattle.part_rounds.specs.Options as spec;
 
-use cat_items::{Auth, Catalogue, Item, Marks, Part, Right};
+use crate::granted::{granted_in, granted_told, is_held};
+use crate::grantees::GrantOption;
+use cat_items::{Auth, Catalogue, Item, Marks, Right};
 use grant_chain::supported;
-use role_graph::{Judge, Matches, Walk};
+use role_graph::{Judge, Walk};
 use sql_tree::Action;
 
 /// What was found of the grant option of a right by the system to SELECT: whether the system grants it.
@@ -93,42 +95,18 @@ fn recalled(found: Option<Found<'_>>, right: &Right) -> Option<bool>
     }
 }
 
-/// The right of the same fields that is held.
-#[derive(Drop)]
-struct SameRight<'a> {
-    right: &'a Right,
-}
-
-impl<'a> Matches for SameRight<'a> {
-    ghost use Rattle.cat_items.specs.Supported.{IsHeld};
-
-    ghost fits = { λ t x. IsHeld t.right.now x };
-
-    fn matches(&self, x: &Item) -> bool {
-        match x {
-            Item::Held(right) => right.get().same(self.right),
-            _ => false,
-        }
-    }
-}
-
-/// Whether the object of a right stands, with its column, and the right is held.
-fn is_held(judge: &Judge<'_>, right: &Right) -> bool
-    ensures { IsTrue result ↔ spec.IsHeldThere (counting judge.now) right.now }
-{
-    let part = Part::Held((&right.need).into());
-    judge.stands((&right.need).into()) && judge.any_match(part, &SameRight { right })
-}
-
-/// The same by the items at marked places.
-fn is_held_by(c: &Catalogue, marks: &Marks, walk: &mut Walk, right: &Right) -> bool
+/// Whether a right is held, and its object stands, with its column: by the items at marked places.
+fn is_held_there(c: &Catalogue, marks: &Marks, walk: &mut Walk, right: &Right) -> bool
     requires room { IsRoomFor walk.old c.now.items }
     requires marks { length marks.now ≡ length c.now.items }
     ensures answer { IsTrue result ↔ spec.IsHeldThere (marked c.now.items marks.now) right.now }
     ensures room { walk.new ≡ walk.old }
 {
+    if !is_held(c, marks, right) {
+        return false;
+    }
     let judge = Judge::new(c, Some(marks), walk);
-    let answer = is_held(&judge, right);
+    let answer = judge.stands((&right.need).into());
     judge.end();
     answer
 }
@@ -150,7 +128,7 @@ fn option_told<'a>(
     ensures found { spec.Knows c.now.items (marked c.now.items marks.now) result.found }
     ensures room { walk.new ≡ walk.old }
 {
-    if !is_held_by(c, marks, walk, right) {
+    if !is_held_there(c, marks, walk, right) {
         return Answer {
             holds: false,
             found,
@@ -169,16 +147,38 @@ fn option_told<'a>(
     }
 }
 
+/// Whether the items at marked places support an item, which is judged by itself.
+fn told_alone(
+    c: &Catalogue,
+    marks: &Marks,
+    walk: &mut Walk,
+    options: &[GrantOption<'_>],
+    x: &Item,
+) -> bool
+    requires room { IsRoomFor walk.old c.now.items }
+    requires marks { length marks.now ≡ length c.now.items }
+    requires options { AreListed c.now.items options.now }
+    ensures answer { IsTrue result ↔ Supported c.now.items (marked c.now.items marks.now) x.now }
+    ensures room { walk.new ≡ walk.old }
+{
+    match granted_in(x) {
+        Some(right) => granted_told(c, marks, walk, options, right),
+        None => supported(c, marks, walk, x),
+    }
+}
+
 /// Whether the items at marked places support an item.
 pub fn told<'a>(
     c: &'a Catalogue,
     marks: &Marks,
     walk: &mut Walk,
+    options: &[GrantOption<'_>],
     x: &'a Item,
     found: Option<Found<'a>>,
 ) -> Answer<'a>
     requires room { IsRoomFor walk.old c.now.items }
     requires marks { length marks.now ≡ length c.now.items }
+    requires options { AreListed c.now.items options.now }
     requires found { spec.Knows c.now.items (marked c.now.items marks.now) found }
     ensures answer { IsTrue result.holds ↔ Supported c.now.items (marked c.now.items marks.now) x.now }
     ensures found { spec.Knows c.now.items (marked c.now.items marks.now) result.found }
@@ -186,7 +186,7 @@ pub fn told<'a>(
 {
     match option_to_select(x) {
         None => Answer {
-            holds: supported(c, marks, walk, x),
+            holds: told_alone(c, marks, walk, options, x),
             found,
         },
         Some(right) => option_told(c, marks, walk, x, right, found),
