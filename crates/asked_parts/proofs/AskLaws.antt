@@ -16,44 +16,49 @@ use Rattle.cat_items.specs.declared.item.Item.TheVariants as item
 use Rattle.std.specs.List.{Contains}
 use Rattle.cat_items.specs.Ranges.{IsRoleAuthorization}
 use Rattle.cat_items.specs.Reach.{GrantsRole, Has, Leads, Reaches}
-use Rattle.cat_items.specs.Relevant.{ActsInRight, HasUsage, IsActor, IsBaseColumnNeed, IsNeedOf, IsObjectNeed, IsOwnedSchema, IsRightNeed, IsViewNeed, Owns, OwnsPath}
+use Rattle.cat_items.specs.Relevant.{ActsInRight, HasUsage, IsActor, IsBaseColumnNeed, IsNeedOf, IsObjectNeed, IsOwnedSchema, IsRightNeed, IsUsageOf, IsViewNeed, Owns, OwnsPath}
 use Rattle.cat_items.specs.Rights.{path_of}
 use Rattle.cascade_laws.specs.Asks.{Asks, IsFarTopic, IsFirstTopic, IsFarRightTopic, by_name, by_far, by_option, of_need, of_supply, of_edges, of_admins}
 use Rattle.cascade_laws.specs.Concerns.{Seeks}
 use Rattle.cascade_laws.specs.Topics.{Topic, IsAuthTopic, IsColumnTopic, IsNameTopic, IsNeedTopic, IsObjectTopic, IsOptionTopic, IsOptionalDomainTopic, IsPartyTopic, IsRightTopic, IsRoleGrantTopic, IsUnder, authorization, role_named, schema, table, base_table, columns, column, domain, routine, key, supply, edges, admins, held, role_auth}
 use Rattle.board_graph.specs.Boards.{IsOwnTopic}
 use Rattle.asked_parts.specs.Parts.{IsAskedBy}
-use Rattle.asked_parts.specs.Rounds.{IsGiven, IsGiver, Tells, TellsTo, option_of}
+use Rattle.asked_parts.specs.Rounds.{IsBased, IsGiven, IsGiver, Tells, TellsTo, option_of}
 
 -- ---- over a list that has all that tells what is asked for
 
-owned_tells : (name : List ℕ) (a : Auth) (y : Item) → IsOwnedSchema name a y → Tells y
-owned_tells name a (item.Schema z) is = tt
-owned_tells name a _ is = absurd is
+usage_based : (domain : Option Object) (need : Need) → IsUsageOf domain need → IsBased domain
+usage_based None need is = absurd is
+usage_based (Some o) need is = tt
 
-usage_tells : (o : Object) (need : Need) (y : Item) → HasUsage o need y → Tells y
-usage_tells o need (item.Column k) is = tt
-usage_tells o need _ is = absurd is
+module _ (l : List Item) where
+  owned_tells : (name : List ℕ) (a : Auth) (y : Item) → IsOwnedSchema name a y → Tells l y
+  owned_tells name a (item.Schema z) is = tt
+  owned_tells name a _ is = absurd is
 
-base_tells : (v : View) (by : Action) (name : List ℕ) (need : Need) (y : Item) → IsBaseColumnNeed v by name need y → Tells y
-base_tells v by name need (item.Column k) is = tt
-base_tells v by name need _ is = absurd is
+  usage_tells : (o : Object) (need : Need) (y : Item) → HasUsage o need y → Tells l y
+  usage_tells o need (item.Column k) is = inl (usage_based k.domain need is.1)
+  usage_tells o need _ is = absurd is
 
-object_tells : (l : List Item) (r : Right) (need : Need) (y : Item) → IsObjectNeed l r need y → Tells y
-object_tells l r need (item.View v) is = tt
-object_tells l r need (item.Routine z) is = tt
-object_tells l r need _ is = absurd is
+  base_tells : (v : View) → Contains l (item.View v) → (by : Action) (name : List ℕ) (need : Need) (y : Item) → IsBaseColumnNeed v by name need y → Tells l y
+  base_tells v here by name need (item.Column k) is = inr (item.View v, here, sym is.0)
+  base_tells v here by name need _ is = absurd is
 
-grant_tells : (role grantee : List ℕ) (y : Item) → GrantsRole role grantee y → Tells y
-grant_tells role grantee (item.RoleAuth g) is = tt
-grant_tells role grantee _ is = absurd is
+  object_tells : (r : Right) (need : Need) (y : Item) → IsObjectNeed l r need y → Tells l y
+  object_tells r need (item.View v) is = tt
+  object_tells r need (item.Routine z) is = tt
+  object_tells r need _ is = absurd is
 
-module _ (l m : List Item) (within : (y : Item) → Contains l y → Tells y → Contains m y) where
-  has_told : (P Q : Item → Type 0) → ((y : Item) → P y → Tells y) → ((y : Item) → P y → Q y) → Has l P → Has m Q
-  has_told P Q tells f h = (h.0, within h.0 h.1 (tells h.0 h.2), f h.0 h.2)
+  grant_tells : (role grantee : List ℕ) (y : Item) → GrantsRole role grantee y → Tells l y
+  grant_tells role grantee (item.RoleAuth g) is = tt
+  grant_tells role grantee _ is = absurd is
+
+module _ (l m : List Item) (within : (y : Item) → Contains l y → Tells l y → Contains m y) where
+  has_told : (P Q : Item → Type 0) → ((y : Item) → P y → Tells l y) → ((y : Item) → Contains l y → P y → Q y) → Has l P → Has m Q
+  has_told P Q tells f h = (h.0, within h.0 h.1 (tells h.0 h.2), f h.0 h.1 h.2)
 
   owns_more : (name : List ℕ) (a : Auth) → Owns l name a → Owns m name a
-  owns_more name a is = has_told (IsOwnedSchema name a) (IsOwnedSchema name a) (owned_tells name a) (λ y p. p) is
+  owns_more name a is = has_told (IsOwnedSchema name a) (IsOwnedSchema name a) (owned_tells l name a) (λ y _ p. p) is
 
   owns_path_more : (path : List (List ℕ)) (a : Auth) → OwnsPath l path a → OwnsPath m path a
   owns_path_more [] a is = is
@@ -83,7 +88,7 @@ module _ (l m : List Item) (within : (y : Item) → Contains l y → Tells y →
 
   leads_more : (from : List ℕ) (roles : List (List ℕ)) (to : List ℕ) → Leads l from roles to → Leads m from roles to
   leads_more from [] to is = is
-  leads_more from (role ∷ roles) to is = (has_told (GrantsRole role from) (GrantsRole role from) (grant_tells role from) (λ y p. p) is.0, leads_more role roles to is.1)
+  leads_more from (role ∷ roles) to is = (has_told (GrantsRole role from) (GrantsRole role from) (grant_tells l role from) (λ y _ p. p) is.0, leads_more role roles to is.1)
 
   reach_more : (a g : Auth) → Reaches l a g → Reaches m a g
   reach_more a Public is = is
@@ -94,23 +99,23 @@ module _ (l m : List Item) (within : (y : Item) → Contains l y → Tells y →
   reach_more Public System is = absurd is
   reach_more (Named from) System is = absurd is
 
-  view_need_more : (v : View) (by : Action) (at : Option (List ℕ)) (need : Need) → IsViewNeed l v by at need → IsViewNeed m v by at need
-  view_need_more v action.Select at need is = is
-  view_need_more v action.Insert None need is = is
-  view_need_more v action.Update None need is = is
-  view_need_more v action.Delete None need is = is
-  view_need_more v action.Insert (Some name) need is = has_told (IsBaseColumnNeed v action.Insert name need) (IsBaseColumnNeed v action.Insert name need) (base_tells v action.Insert name need) (λ y p. p) is
-  view_need_more v action.Update (Some name) need is = has_told (IsBaseColumnNeed v action.Update name need) (IsBaseColumnNeed v action.Update name need) (base_tells v action.Update name need) (λ y p. p) is
-  view_need_more v action.Delete (Some name) need is = absurd is
-  view_need_more v action.References at need is = absurd is
-  view_need_more v action.Usage at need is = absurd is
-  view_need_more v action.Execute at need is = absurd is
-  view_need_more v action.Admin at need is = absurd is
+  view_need_more : (v : View) → Contains l (item.View v) → (by : Action) (at : Option (List ℕ)) (need : Need) → IsViewNeed l v by at need → IsViewNeed m v by at need
+  view_need_more v here action.Select at need is = is
+  view_need_more v here action.Insert None need is = is
+  view_need_more v here action.Update None need is = is
+  view_need_more v here action.Delete None need is = is
+  view_need_more v here action.Insert (Some name) need is = has_told (IsBaseColumnNeed v action.Insert name need) (IsBaseColumnNeed v action.Insert name need) (base_tells l v here action.Insert name need) (λ y _ p. p) is
+  view_need_more v here action.Update (Some name) need is = has_told (IsBaseColumnNeed v action.Update name need) (IsBaseColumnNeed v action.Update name need) (base_tells l v here action.Update name need) (λ y _ p. p) is
+  view_need_more v here action.Delete (Some name) need is = absurd is
+  view_need_more v here action.References at need is = absurd is
+  view_need_more v here action.Usage at need is = absurd is
+  view_need_more v here action.Execute at need is = absurd is
+  view_need_more v here action.Admin at need is = absurd is
 
-  object_need_more : (r : Right) (need : Need) (y : Item) → IsObjectNeed l r need y → IsObjectNeed m r need y
-  object_need_more r need (item.View v) is = (is.0, view_need_more v r.need.action r.need.column need is.1)
-  object_need_more r need (item.Routine x) is = is
-  object_need_more r need _ is = absurd is
+  object_need_more : (r : Right) (need : Need) (y : Item) → Contains l y → IsObjectNeed l r need y → IsObjectNeed m r need y
+  object_need_more r need (item.View v) here is = (is.0, view_need_more v here r.need.action r.need.column need is.1)
+  object_need_more r need (item.Routine x) here is = is
+  object_need_more r need _ here is = absurd is
 
   right_need_more : (r : Right) (a : Auth) (need : Need) → IsRightNeed l r a need → IsRightNeed m r a need
   right_need_more r System need is = has_told (IsObjectNeed l r need) (IsObjectNeed m r need) (object_tells l r need) (object_need_more r need) is
@@ -118,7 +123,7 @@ module _ (l m : List Item) (within : (y : Item) → Contains l y → Tells y →
   right_need_more r (Named name) need is = is
 
   need_more : (x : Item) (need : Need) → IsNeedOf l x need → IsNeedOf m x need
-  need_more (item.Table t) need is = has_told (HasUsage t need) (HasUsage t need) (usage_tells t need) (λ y p. p) is
+  need_more (item.Table t) need is = has_told (HasUsage t need) (HasUsage t need) (usage_tells l t need) (λ y _ p. p) is
   need_more (item.View v) need is = is
   need_more (item.Column k) need is = is
   need_more (item.DomainCheck d) need is = is
@@ -212,7 +217,7 @@ given_or_not _ = inr (λ h. h)
 
 -- ---- over a part that has all that tells to the suspects
 
-pub asked_by_told : (l m suspects : List Item) → ((x y : Item) → Contains suspects x → Contains l y → TellsTo x y → Contains m y) → (k : Item) → IsAskedBy l suspects k → IsAskedBy m suspects k
+pub asked_by_told : (l m suspects : List Item) → ((x y : Item) → Contains suspects x → Contains l y → TellsTo l x y → Contains m y) → (k : Item) → IsAskedBy l suspects k → IsAskedBy m suspects k
 asked_by_told l m suspects within k (x, here, (t, (asks, own_topic), keyed)) = (x, here, (t, (still, own_topic), keyed))
   where
     still : Asks m x t

@@ -4,5 +4,6 @@ pub mod GrowthLaws
 pub mod MoreLaws
 pub mod PartLaws
 pub mod RoundLaws
+pub mod SchemaLaws
 pub mod TellLaws
 pub mod UnderLaws

@@ -1,5 +1,5 @@
 -- A round: what is asked for, and wasn't yet, is looked up and put in.
-use Rattle.std.proofs.Common.{◌≡◌, ◌⊎◌, ◌↔◌, inl, inr, ℕ, ◌+◌, ◌≤◌, List, [], ◌∷◌, ◌++◌, refl, sym, ◌∙◌, subst, arith}
+use Rattle.std.proofs.Common.{◌≡◌, ◌⊎◌, ◌↔◌, inl, inr, ℕ, ◌+◌, ◌≤◌, List, [], ◌∷◌, ◌++◌, refl, sym, ◌∙◌, ap, subst, arith}
 use Rattle.std.specs.List.{Contains, sum_by}
 use Rattle.std.specs.declared.cmp.Ordering.{Ordering}
 use Rattle.std.specs.declared.cmp.Ordering.TheVariants.{Less, Equal, Greater}
@@ -17,7 +17,7 @@ use Rattle.edit_rules.proofs.ItemKeys.{one_granted}
 use Rattle.board_graph.specs.BoardKeys.{IsHelper}
 use Rattle.board_graph.proofs.Keys.{topic_is_helper}
 use Rattle.topic_keys.specs.Lists.{Gets}
-use Rattle.asked_parts.specs.Parts.{HasAsked, IsAskedBy}
+use Rattle.asked_parts.specs.Parts.{HasAsked, IsAskedAnew, IsAskedBy}
 use Rattle.asked_parts.specs.Rounds.{IsBegun, IsClosed, IsLeast, IsUnderWay, TellsTo}
 use Rattle.asked_parts.specs.Under.{AreApart, IsUnderAny, IsUnderKey, IsUnmarked, look_ups}
 use Rattle.asked_parts.proofs.AskLaws.{asked_by_more, asked_by_told}
@@ -48,34 +48,47 @@ there_or_not (x ∷ items) k granted = by (there_or_not items k granted) (item_c
     by rest Less e = other rest (λ same. let odd : Less ≡ Equal = sym e ∙ same in cc)
     by rest Greater e = other rest (λ same. let odd : Greater ≡ Equal = sym e ∙ same in cc)
 
--- all keys that are asked for over the part, and those that weren't asked for yet
-module _ (g : Graph Item) (marks : List ℕ) (suspects part asked all : List Item) (way : IsUnderWay g marks suspects part asked) (all_are : (k : Item) → Contains all k ↔ IsAskedBy part suspects k) where
-  pub asked_within : IsWithin asked all
-  asked_within k h = (all_are k).1 (way.asked_for k h)
+-- all keys that are asked for over the part, and those of them that weren't asked for yet
+module _ (part suspects asked all fresh : List Item) (all_are : (k : Item) → Contains all k ↔ IsAskedBy part suspects k) (fresh_are : IsWithout all asked fresh) where
+  pub asked_anew : (k : Item) → Contains fresh k → IsAskedAnew part suspects asked k
+  asked_anew k h = ((all_are k).0 ((fresh_are k).0 h).0, ((fresh_are k).0 h).1)
 
-  module _ (fresh : List Item) (fresh_are : IsWithout all asked fresh) where
+  pub asked_or_fresh : (k : Item) → IsAskedBy part suspects k → Contains asked k ⊎ Contains fresh k
+  asked_or_fresh k h = elim (there_or_not asked k (asked_is_granted part suspects k h)) [ inl old ↦ inl old | inr not ↦ inr ((fresh_are k).1 ((all_are k).1 h, not)) ]
+
+-- keys that are asked for over the part, and weren't asked for yet
+module _ (g : Graph Item) (marks : List ℕ) (suspects part asked : List Item) (way : IsUnderWay g marks suspects part asked) where
+  module _ (fresh : List Item) (fresh_are : (k : Item) → Contains fresh k → IsAskedAnew part suspects asked k) where
     fresh_asked : (k : Item) → Contains fresh k → IsAskedBy part suspects k
-    fresh_asked k h = (all_are k).0 ((fresh_are k).0 h).0
+    fresh_asked k h = (fresh_are k h).0
 
     pub fresh_is_helper : (k : Item) → Contains fresh k → IsHelper k
     fresh_is_helper k h = asked_is_helper part suspects k (fresh_asked k h)
 
     pub fresh_apart : HaveNoKeyInCommon asked fresh
-    fresh_apart x y h new e = ((fresh_are y).0 new).1 (subst (Contains asked) (one_granted x y (asked_is_granted part suspects y (fresh_asked y new)) e) h)
+    fresh_apart x y h new e = (fresh_are y new).1 (subst (Contains asked) (one_granted x y (asked_is_granted part suspects y (fresh_asked y new)) e) h)
 
     -- ---- what it costs
 
-    module _ (asked_order : IsInOrder asked) (fresh_order : IsInOrder fresh) where
+    module _ (fresh_order : IsInOrder fresh) where
       -- what was asked for and what is asked for now sum up to no more than a list that has both
-      pub sums_within : (keys : List Item) → IsWithin asked keys → IsWithin fresh keys → sum_by (look_ups g) asked + sum_by (look_ups g) fresh ≤ sum_by (look_ups g) keys
+      sums_within : (keys : List Item) → IsWithin asked keys → IsWithin fresh keys → sum_by (look_ups g) asked + sum_by (look_ups g) fresh ≤ sum_by (look_ups g) keys
       sums_within keys old new =
-          let both : IsOnce (asked ++ fresh) = once_append asked fresh (once asked asked_order) (once fresh fresh_order) (λ k h f. ((fresh_are k).0 f).1 h) in
+          let both : IsOnce (asked ++ fresh) = once_append asked fresh (once asked way.asked_order) (once fresh fresh_order) (λ k h f. (fresh_are k f).1 h) in
           let within : IsWithin (asked ++ fresh) keys = λ k h. elim (Contains-append_cases asked fresh k h) [ inl o ↦ old k o | inr n ↦ new k n ] in
           omega (arith, no_more (look_ups g) (asked ++ fresh) keys both within, sum_by-append (look_ups g) asked fresh)
 
-      pub cost_within : (p keys : List Item) → IsLeast g marks suspects part → IsClosed g marks suspects p → HasAsked p suspects keys → sum_by (look_ups g) asked + sum_by (look_ups g) fresh ≤ sum_by (look_ups g) keys
+      cost_within : (p keys : List Item) → IsLeast g marks suspects part → IsClosed g marks suspects p → HasAsked p suspects keys → sum_by (look_ups g) asked + sum_by (look_ups g) fresh ≤ sum_by (look_ups g) keys
       cost_within p keys least closed has =
           sums_within keys (λ k h. has k (asked_by_more part p (least p closed) suspects k (way.asked_for k h))) (λ k h. has k (asked_by_more part p (least p closed) suspects k (fresh_asked k h)))
+
+      -- where it took no more steps than to look up these keys
+      module _ (looked : List Item) (steps_old steps_new : ℕ) (are : looked ≡ fresh) (ticks : steps_new ≤ steps_old + sum_by (look_ups g) looked) where
+        pub spent_within : (keys : List Item) → IsWithin asked keys → IsWithin fresh keys → steps_new + sum_by (look_ups g) asked ≤ steps_old + sum_by (look_ups g) keys
+        spent_within keys old new = omega (arith, ticks, ap (sum_by (look_ups g)) are, sums_within keys old new)
+
+        pub few_within : (p keys : List Item) → IsLeast g marks suspects part → IsClosed g marks suspects p → HasAsked p suspects keys → steps_new + sum_by (look_ups g) asked ≤ steps_old + sum_by (look_ups g) keys
+        few_within p keys least closed has = omega (arith, ticks, ap (sum_by (look_ups g)) are, cost_within p keys least closed has)
 
     -- ---- what is found
 
@@ -113,18 +126,15 @@ module _ (g : Graph Item) (marks : List ℕ) (suspects part asked all : List Ite
           found = found_new;
         }
 
-        -- where others ask by nothing that was found and is new, the part has all
-        pub closed_new : ((x y : Item) → Contains suspects x → Contains found y → TellsTo x y → Contains part y) → IsClosed g marks suspects part_new
-        closed_new none = record { begun = begun_new; asked = λ k y h under. found_new k y (known k (asked_by_told part_new part suspects back k h)) under }
+        -- where these are all, and others ask by nothing that was found and is new, the part has all
+        pub closed_new : ((k : Item) → IsAskedBy part suspects k → Contains asked k ⊎ Contains fresh k) → ((x y : Item) → Contains suspects x → Contains found y → TellsTo part_new x y → Contains part y) → IsClosed g marks suspects part_new
+        closed_new all none = record { begun = begun_new; asked = λ k y h under. found_new k y (known k (asked_by_told part_new part suspects back k h)) under }
           where
-            back : (x y : Item) → Contains suspects x → Contains part_new y → TellsTo x y → Contains part y
+            back : (x y : Item) → Contains suspects x → Contains part_new y → TellsTo part_new x y → Contains part y
             back x y here h tells = elim ((gets y).0 h) [ inl old ↦ old | inr f ↦ none x y here f tells ]
 
             known : (k : Item) → IsAskedBy part suspects k → Contains asked_new k
-            known k h = elim (there_or_not asked k (asked_is_granted part suspects k h)) [
-              | inl old ↦ (joined k).1 (inl old)
-              | inr not ↦ (joined k).1 (inr ((fresh_are k).1 ((all_are k).1 h, not)))
-            ]
+            known k h = (joined k).1 (all k h)
 
         pub least_new : IsLeast g marks suspects part → IsLeast g marks suspects part_new
         least_new least p closed y h = elim ((gets y).0 h) [

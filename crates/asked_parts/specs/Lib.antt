@@ -1,3 +1,4 @@
 pub mod Parts
 pub mod Rounds
+pub mod Schemas
 pub mod Under

@@ -26,6 +26,10 @@ pub record IsPartOf (g : Graph Item) (c : List Item) (marks : List ℕ) (suspect
 abbrev pub IsAskedBy : List Item → List Item → Item → Type 0
 IsAskedBy part suspects k = (x : Item) × Contains suspects x × IsKeyWhere (IsAskedFor part x) k
 
+-- so, and the key isn't among those that were asked for
+abbrev pub IsAskedAnew : List Item → List Item → List Item → Item → Type 0
+IsAskedAnew part suspects asked k = IsAskedBy part suspects k × (¬ (Contains asked k))
+
 -- a list has all keys that are asked for
 abbrev pub HasAsked : List Item → List Item → List Item → Type 0
 HasAsked part suspects keys = (k : Item) → IsAskedBy part suspects k → Contains keys k

@@ -3,12 +3,14 @@ use Rattle.std.specs.Prelude.{◌≡◌, ◌↔◌, ◌⊎◌, ℕ, List, Option
 use Rattle.std.specs.List.{Contains}
 use Rattle.finite_chains.specs.Chains.{IsWithin}
 use Rattle.item_index.specs.Graphs.{Graph}
+use Rattle.sql_names.specs.declared.object.Object.{Object}
 use Rattle.cat_items.specs.declared.need.Auth.{Auth}
 use Rattle.cat_items.specs.declared.need.Auth.TheVariants.{System}
 use Rattle.cat_items.specs.declared.item.Item.{Item}
 use Rattle.cat_items.specs.declared.item.Item.TheVariants as item
 use Rattle.cat_items.specs.Catalogues.{IsInOrder}
-use Rattle.cat_items.specs.Ranges.{IsRoleAuthorization}
+use Rattle.cat_items.specs.Ranges.{IsRoleAuthorization, IsView}
+use Rattle.cat_items.specs.Reach.{Has}
 use Rattle.asked_parts.specs.Parts.{IsAskedBy}
 use Rattle.asked_parts.specs.Under.{IsUnmarked, IsUnderKey}
 
@@ -71,15 +73,21 @@ IsGiven (item.RoleAuth g) = Unit {0}
 IsGiven (item.RoleAdmin g) = Unit {0}
 IsGiven x = ⊥
 
--- Others ask by the item: by a schema for its owner, by a view, a routine or a column for what it needs, and by a role authorization for the role.
-abbrev pub Tells : Item → Type 0
-Tells (item.Schema z) = Unit {0}
-Tells (item.View v) = Unit {0}
-Tells (item.Column c) = Unit {0}
-Tells (item.Routine r) = Unit {0}
-Tells (item.RoleAuth g) = Unit {0}
-Tells x = ⊥
+-- a column is based on a domain
+abbrev pub IsBased : Option Object → Type 0
+IsBased None = ⊥
+IsBased (Some domain) = Unit {0}
 
--- an item may ask by the other one
-abbrev pub TellsTo : Item → Item → Type 0
-TellsTo x y = IsRoleAuthorization y ⊎ (Tells y × (¬ (IsGiven x)))
+-- Others ask by the item: by a schema for its owner, by a view or a routine for what it needs, by a column for its domain, or for the column behind it where it is
+-- one of a view of the part, and by a role authorization for the role.
+abbrev pub Tells : List Item → Item → Type 0
+Tells part (item.Schema z) = Unit {0}
+Tells part (item.View v) = Unit {0}
+Tells part (item.Column c) = IsBased c.domain ⊎ Has part (IsView c.table)
+Tells part (item.Routine r) = Unit {0}
+Tells part (item.RoleAuth g) = Unit {0}
+Tells part x = ⊥
+
+-- an item may ask by the other one, which is of the part
+abbrev pub TellsTo : List Item → Item → Item → Type 0
+TellsTo part x y = IsRoleAuthorization y ⊎ (Tells part y × (¬ (IsGiven x)))

@@ -6,6 +6,7 @@ mod beginning;
 mod growing;
 mod helpers;
 mod rounds;
+mod schemas;
 mod telling;
 mod under;
 

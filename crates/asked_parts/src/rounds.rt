@@ -1,17 +1,18 @@
 //! Rounds in which a part grows by what its suspects ask for.
 
-ghost use Rattle.std.specs.Prelude.{◌≡◌, ◌+◌, ◌<◌, ◌≤◌, true, false, List, length, IfOk, OnOk};
+ghost use Rattle.std.specs.Prelude.{◌≡◌, ◌+◌, ◌<◌, ◌≤◌, ◌⊎◌, true, false, List, length, IfOk, OnOk};
 ghost use Rattle.std.specs.List.{Contains, sum_by};
 ghost use Rattle.finite_chains.specs.Chains.{IsWithin};
 ghost use Rattle.cat_items.specs.declared.item.Item.{Item};
 ghost use Rattle.board_steps.specs.Plans.{HasNoHelper, IsFullBoard};
-ghost use Rattle.asked_parts.specs.Parts.{HasAsked, IsPartOf};
+ghost use Rattle.asked_parts.specs.Parts.{HasAsked, IsAskedAnew, IsAskedBy, IsPartOf};
 ghost use Rattle.asked_parts.specs.Rounds.{HasAskedAll, IsClosed, IsLeast, IsUnderWay, WasAsked};
 ghost use Rattle.asked_parts.specs.Under.{AreApart, look_ups};
 
 use crate::asking::asked_by;
 use crate::beginning::begun;
 use crate::growing::put_copies;
+use crate::schemas::schema_keys;
 use crate::telling::ask_again;
 use crate::under::items_under;
 use cat_items::{Catalogue, Item};
@@ -20,6 +21,36 @@ use item_index::{Index, Steps};
 use std::alloc::{AllocError, Global};
 use std::hash::BuildHasher;
 use std::sync::ledger::Ledger;
+
+/// Looks up these keys, which are asked for over the part and weren't yet, and puts in what stands under them: whether more may be asked for by it.
+fn look_up<S: BuildHasher + Drop, L: Ledger>(
+    alloc: Global,
+    board: &Index<Item, S>,
+    marks: &IndexSet<usize>,
+    suspects: &Catalogue,
+    keys: Catalogue,
+    part: &mut Catalogue,
+    asked: &mut Catalogue,
+    steps: &mut Steps<L>,
+) -> Result<bool, AllocError>
+    requires apart { AreApart board.now marks.now.keys suspects.now.items }
+    requires way { IsUnderWay board.now marks.now.keys suspects.now.items part.old.items asked.old.items }
+    requires keys { (k : Item) → Contains keys.items k → IsAskedAnew part.old.items suspects.now.items asked.old.items k }
+    ensures way { OnOk result (IsUnderWay board.now marks.now.keys suspects.now.items part.new.items asked.new.items) }
+    ensures closed { ((k : Item) → IsAskedBy part.old.items suspects.now.items k → Contains asked.old.items k ⊎ Contains keys.items k)
+        → IfOk result (λ more. more ≡ false → IsClosed board.now marks.now.keys suspects.now.items part.new.items) }
+    ensures more { IfOk result (λ more. more ≡ true → length part.old.items < length part.new.items) }
+    ensures least { OnOk result (IsLeast board.now marks.now.keys suspects.now.items part.old.items → IsLeast board.now marks.now.keys suspects.now.items part.new.items) }
+    ensures spent { OnOk result (steps.new + sum_by (look_ups board.now) asked.old.items ≤ steps.old + sum_by (look_ups board.now) asked.new.items) }
+    ensures few { (p all : List Item) → IsLeast board.now marks.now.keys suspects.now.items part.old.items → IsClosed board.now marks.now.keys suspects.now.items p → HasAsked p suspects.now.items all
+        → steps.new + sum_by (look_ups board.now) asked.old.items ≤ steps.old + sum_by (look_ups board.now) all }
+{
+    let found = items_under(alloc, board, marks, keys.items(), steps)?;
+    asked.reserve(keys.items().len())?;
+    asked.put_in_all(keys.into_items());
+    let grew = put_copies(part, found.items())?;
+    Ok(grew && ask_again(part, suspects.items(), found.items()))
+}
 
 /// Puts in what is asked for over the part, and wasn't yet: whether more may be asked for by it.
 fn round<S: BuildHasher + Drop, L: Ledger>(
@@ -43,11 +74,7 @@ fn round<S: BuildHasher + Drop, L: Ledger>(
 {
     let mut keys = asked_by(alloc, part, suspects.items())?;
     keys.take_out_all(asked.items());
-    let found = items_under(alloc, board, marks, keys.items(), steps)?;
-    asked.reserve(keys.items().len())?;
-    asked.put_in_all(keys.into_items());
-    let grew = put_copies(part, found.items())?;
-    Ok(grew && ask_again(suspects.items(), found.items()))
+    look_up(alloc, board, marks, suspects, keys, part, asked, steps)
 }
 
 /// Puts in more suspects, and all that the suspects ask for and that wasn't asked for yet: `suspects` are all of them. It looks up what the
@@ -76,6 +103,8 @@ pub fn ask_more<S: BuildHasher + Drop, L: Ledger>(
     let _ = suspects.items();
     let first = begun(alloc, board, marks, more.items(), steps)?;
     put_copies(part, first.items())?;
+    let schemas = schema_keys(alloc, more.items(), asked)?;
+    look_up(alloc, board, marks, suspects, schemas, part, asked, steps)?;
     while round(alloc, board, marks, suspects, part, asked, steps)? {}
     Ok(())
 }

@@ -1,6 +1,7 @@
-use Rattle.std.proofs.Common.{◌≡◌, ◌↔◌, ◌⊎◌, ◌∙◌, List, ap, arith, length, subst, sym}
+use Rattle.std.proofs.Common.{◌≡◌, ◌↔◌, ◌⊎◌, ◌∙◌, inr, ℕ, List, ap, arith, length, subst, sym}
 use Rattle.std.specs.List.{Contains}
 use Rattle.std.proofs.lemmas.Bool.{eqb-true}
+use Rattle.item_index.specs.Graphs.{Graph}
 use Rattle.cat_items.specs.declared.item.Item.{Item}
 use Rattle.topic_keys.specs.Lists.{Gets}
 use Rattle.asked_parts.specs.Rounds.{IsAddedToBySome}
@@ -8,7 +9,11 @@ use Rattle.asked_parts.specs.Under.{look_ups}
 use Rattle.asked_parts.proofs.GrowthLaws.{no_more, once}
 use Rattle.asked_parts.proofs.MoreLaws.{asked_before, asked_within_all, first_apart, least_more, way_more}
 use Rattle.asked_parts.proofs.PartLaws.{part_closed, within_room}
+use Rattle.asked_parts.proofs.SchemaLaws.{schema_asked}
 use Rattle.asked_parts.proofs.rounds.ask_more.Goals as goal
+
+first_equal : (g : Graph Item) (marks : List ℕ) (a b first : List Item) → a ≡ b → ((y : Item) → Contains first y ↔ (Contains a y ⊎ IsAddedToBySome g marks a y)) → (y : Item) → Contains first y ↔ (Contains b y ⊎ IsAddedToBySome g marks b y)
+first_equal g marks a b first e are = subst (λ (l : List Item). (y : Item) → Contains first y ↔ (Contains l y ⊎ IsAddedToBySome g marks l y)) e are
 
 pub returns-then-is_empty-clause-asked : goal.returns-then-is_empty-clause-asked
 returns-then-is_empty-clause-asked g c =
@@ -83,6 +88,56 @@ returns-in_err-put_copies-clause-ticks g c =
     let was = c.requires.before in
     λ p keys closed has. omega (arith, no_more (look_ups graph) asked keys (once asked was.1.way.asked_order) (asked_within_all graph marks suspects more part asked was p keys closed has), c.begun.ensures.ticks, ap length c.items-3.ensures.items)
 
+pub returns-in_err-schemas-clause-ticks : goal.returns-in_err-schemas-clause-ticks
+returns-in_err-schemas-clause-ticks g c =
+    let graph = c.args.board.now in
+    let marks = c.args.marks.now.keys in
+    let suspects = c.args.suspects.now.items in
+    let more = c.args.more.now.items in
+    let part = c.args.part.now.items in
+    let asked = c.args.asked.now.items in
+    let was = c.requires.before in
+    λ p keys closed has. omega (arith, no_more (look_ups graph) asked keys (once asked was.1.way.asked_order) (asked_within_all graph marks suspects more part asked was p keys closed has), c.begun.ensures.ticks, ap length c.items-3.ensures.items)
+
+pub look_up-requires-clause-way : goal.look_up-requires-clause-way
+look_up-requires-clause-way g c =
+    let graph = c.args.board.now in
+    let marks = c.args.marks.now.keys in
+    let suspects = c.args.suspects.now.items in
+    let more = c.args.more.now.items in
+    let part = c.args.part.now.items in
+    let asked = c.args.asked.now.items in
+    let was = c.requires.before in
+    let first = c.in_ok-first.first.items in
+    let are = first_equal graph marks _ more first c.items-3.ensures.items c.in_ok-first.ensures.members in
+    let new = c.put_copies.new.part.items in
+    let gets : Gets (Contains first) part new = subst (λ (l : List Item). Gets (Contains l) part new) c.items-4.ensures.items c.in_ok-put_copies.ensures.members in
+    way_more graph marks suspects more part asked was first are new gets c.in_ok-put_copies.ensures.order
+
+pub look_up-requires-clause-keys : goal.look_up-requires-clause-keys
+look_up-requires-clause-keys g c =
+    let suspects = c.args.suspects.now.items in
+    λ k h.
+    let key = c.in_ok-schemas.ensures k h in
+    let x : Item = key.0.0 in
+    let here : Contains suspects x = (c.requires.before.2 x).1 (inr (subst (λ l. Contains l x) c.items-5.ensures.items key.0.1)) in
+    (schema_asked c.put_copies.new.part.items suspects x k here key.0.2, key.1)
+
+pub returns-in_err-look_up-clause-ticks : goal.returns-in_err-look_up-clause-ticks
+returns-in_err-look_up-clause-ticks g c =
+    let graph = c.args.board.now in
+    let marks = c.args.marks.now.keys in
+    let suspects = c.args.suspects.now.items in
+    let more = c.args.more.now.items in
+    let part = c.args.part.now.items in
+    let asked = c.args.asked.now.items in
+    let was = c.requires.before in
+    let first = c.in_ok-first.first.items in
+    let are = first_equal graph marks _ more first c.items-3.ensures.items c.in_ok-first.ensures.members in
+    let new = c.put_copies.new.part.items in
+    let gets : Gets (Contains first) part new = subst (λ (l : List Item). Gets (Contains l) part new) c.items-4.ensures.items c.in_ok-put_copies.ensures.members in
+    λ p keys closed has. omega (arith, c.look_up.ensures.few p keys (least_more graph marks suspects more part asked was first are new gets) closed has, c.begun.ensures.ticks, ap length c.items-3.ensures.items)
+
 pub loop-first-init : goal.loop-first-init
 loop-first-init g c =
     let graph = c.args.board.now in
@@ -93,14 +148,13 @@ loop-first-init g c =
     let asked = c.args.asked.now.items in
     let was = c.requires.before in
     let first = c.in_ok-first.first.items in
-    let are : (y : Item) → Contains first y ↔ (Contains more y ⊎ IsAddedToBySome graph marks more y) =
-    subst (λ (l : List Item). (y : Item) → Contains first y ↔ (Contains l y ⊎ IsAddedToBySome graph marks l y)) c.items-3.ensures.items c.in_ok-first.ensures.members in
+    let are = first_equal graph marks _ more first c.items-3.ensures.items c.in_ok-first.ensures.members in
     let new = c.put_copies.new.part.items in
     let gets : Gets (Contains first) part new = subst (λ (l : List Item). Gets (Contains l) part new) c.items-4.ensures.items c.in_ok-put_copies.ensures.members in
     record {
-      way = way_more graph marks suspects more part asked was first are new gets c.in_ok-put_copies.ensures.order;
-      least = least_more graph marks suspects more part asked was first are new gets;
-      spent = omega (arith, c.begun.ensures.ticks, ap length c.items-3.ensures.items);
+      way = c.in_ok-look_up.ensures.way;
+      least = c.in_ok-look_up.ensures.least (least_more graph marks suspects more part asked was first are new gets);
+      spent = omega (arith, c.in_ok-look_up.ensures.spent, c.begun.ensures.ticks, ap length c.items-3.ensures.items);
     }
 
 pub returns-in_err-round-clause-ticks : goal.returns-in_err-round-clause-ticks

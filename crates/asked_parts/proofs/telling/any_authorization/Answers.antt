@@ -1,4 +1,3 @@
-use Rattle.std.proofs.Common.{refl}
 use Rattle.std.proofs.lemmas.Bool.{false≢true}
 use Rattle.cat_items.specs.Ranges.{IsRoleAuthorization}
 use Rattle.asked_parts.proofs.TellLaws.{none_more, none_at_all}
