@@ -270,6 +270,26 @@ module _ (g : Graph Item) (c edited : List Item) (edit : Edit) (marks own : List
         (λ a d ha hd. let of_a = inside a ha in let of_d = inside d hd in one_arrival a d of_a.0 of_d.0 (one_key new e.0 a.key d.key of_a.1.key of_d.1.key))
         (λ a ha. coming.links_few g c edited f edit marks own on good fit most b fresh with_f are_fresh new survive e.0 a (inside a ha).1 (length e.1) (e.1, (all.1.of e h).1, refl)))
 
+    -- the plan is made of what is touched and of what comes
+    pub comes_within : seed_look_ups edit + sum_by (look_ups g.dependents) marks + length marks + sum_by (leaving.look_ups g marks) marks + sum_by (λ a. length (links_by a)) arrivals ≤ most
+    comes_within =
+        omega (
+          arith,
+          board.ticks g c edit marks own on,
+          board.few g c edit marks own on,
+          board.plan_few g c edit marks own on,
+          taken_few,
+          linear links own,
+          own_paid,
+          added_paid,
+          comes_paid,
+          three_sums (λ (e : Entry u). 59 * square (length e.1) - 20) (λ e. 20) (λ (e : Entry u). 5 * square (length e.1)) (λ (e : Entry u). 64 * square (length e.1)) all.0 (λ e. omega (arith, some_square (length e.1))),
+          all.1.sums (λ n. 64 * square n),
+          most_of_all b.relevant,
+          b.is,
+        )
+
+    -- and what goes out is read
     pub within_bound : (out : List ℕ) → AreOutgoing g marks out
         → seed_look_ups edit + sum_by (look_ups g.dependents) marks + length marks + sum_by (leaving.look_ups g marks) marks + sum_by (λ a. length (links_by a)) arrivals + sum_by (λ n. 1 + look_ups_with g n) out ≤ most
     within_bound out outgoing =

@@ -72,10 +72,15 @@ pub fn links_of_a_right_that_is_paid_for_are_few()
         → (payer : Item) → IsPaidBy c payer x → (relevant : List Item) → Lists (λ y. Contains u y × Relevant u y payer) relevant → length (list_at g.rests n) ≤ 2 * count_by leads_on relevant + 6 }
 {}
 
-/// What an edit touches is found on the board of its catalogue, its keys are read, the plan is made of it and of what comes for the suspects of the
-/// new catalogue, and what goes out is read with its links, within the bound of the edit.
+/// What an edit touches is found on the board of its catalogue and its keys are read (`read`), the plan is made of it and of what comes for the
+/// suspects of the new catalogue (`planned`), and what goes out is read with its links (`made`), within the bound of the edit.
 pub fn what_goes_and_comes_is_within_the_bound()
-    ensures { (g : Graph Item) (c edited f new : List Item) (edit : Edit) (marks own out : List ℕ) (fresh : List Item) (arrivals : List Arrival) (bound : ℕ) → AreTouchedOn g c edit marks own → AreOutgoing g marks out → IsGood c → IsFit c edit edited
+    ensures read { (g : Graph Item) (c edited : List Item) (edit : Edit) (marks own : List ℕ) (bound : ℕ) → AreTouchedOn g c edit marks own → IsGood c → IsFit c edit edited → IsBound c edit edited bound
+        → seed_look_ups edit + sum_by (look_ups g.dependents) marks + length marks ≤ bound }
+    ensures planned { (g : Graph Item) (c edited f new : List Item) (edit : Edit) (marks own : List ℕ) (fresh : List Item) (arrivals : List Arrival) (bound : ℕ) → AreTouchedOn g c edit marks own → IsGood c → IsFit c edit edited
+        → IsWithSystem edited f → AreFresh c edited fresh → AreSurvivors f new → AreArrivals new (is_suspect g marks edit.added fresh) arrivals → IsBound c edit edited bound
+        → seed_look_ups edit + sum_by (look_ups g.dependents) marks + length marks + sum_by (leaving.look_ups g marks) marks + sum_by (λ a. length (links_by a)) arrivals ≤ bound }
+    ensures made { (g : Graph Item) (c edited f new : List Item) (edit : Edit) (marks own out : List ℕ) (fresh : List Item) (arrivals : List Arrival) (bound : ℕ) → AreTouchedOn g c edit marks own → AreOutgoing g marks out → IsGood c → IsFit c edit edited
         → IsWithSystem edited f → AreFresh c edited fresh → AreSurvivors f new → AreArrivals new (is_suspect g marks edit.added fresh) arrivals → IsBound c edit edited bound
         → seed_look_ups edit + sum_by (look_ups g.dependents) marks + length marks + sum_by (leaving.look_ups g marks) marks + sum_by (λ a. length (links_by a)) arrivals + sum_by (λ n. 1 + look_ups_with g n) out ≤ bound }
 {}

@@ -109,7 +109,7 @@ impl Book {
     ///
     /// A text that is answered gets an entry in the journal, a refused one too. `JournalFull` and `OutOfMemory` leave all as it was.
     /// `steps` counts the look-ups in the board of the catalogue, which follow what a statement's edit touches: none where there is no edit
-    /// or the journal is full, and no more than the bound of the edit, where nothing is missing.
+    /// or the journal is full, and no more than the bound of the edit.
     pub fn apply<L: Ledger>(&mut self, session: u32, text: &[u8], steps: &mut Steps<L>) -> Reply
         requires { length text.now ≤ 65535 }
         ensures step { StepOrNone self.old session text.now result self.new }

@@ -318,7 +318,7 @@ impl Environment {
     }
 
     /// Answers a text of a session. All its memory is taken before the first change; `Err` is want of memory. A text without an edit takes no
-    /// look-up, and one with an edit no more than its bound, where nothing is missing.
+    /// look-up, and one with an edit no more than its bound.
     pub fn answer<L: Ledger>(
         &mut self,
         alloc: Global,

@@ -6,7 +6,6 @@ use Rattle.cat_items.specs.declared.edit.Who.{Who}
 use Rattle.cat_items.specs.declared.item.Item.{Item}
 use Rattle.cat_items.specs.Bound.{IsBound}
 use Rattle.cat_items.specs.Fit.{IsFit}
-use Rattle.revoke_cascade.specs.Missing.{MissesNothing}
 use Rattle.edit_rules.specs.First.{First, Passes}
 use Rattle.catalogue_edits.specs.Statements.{edit_refusals, IsEditOf}
 
@@ -15,6 +14,6 @@ pub record HasEdit (c : List Item) (who : Who) (statement : Statement) (edit : E
   pub passes : Passes (First (edit_refusals c who statement))
   pub is_edit : IsEditOf c who statement edit
 
--- where nothing is missing, no more look-ups than the bound of the edit
+-- no more look-ups than the bound of the edit
 abbrev pub TakesFew : List Item → Edit → ℕ → ℕ → Type 0
-TakesFew c edit before after = (edited : List Item) (bound : ℕ) (b : IsBound c edit edited bound) → IsFit c edit edited → MissesNothing b.u edit → after ≤ before + bound
+TakesFew c edit before after = (edited : List Item) (bound : ℕ) → IsBound c edit edited bound → IsFit c edit edited → after ≤ before + bound

@@ -35,7 +35,7 @@ pub fn is_edit(statement: &Statement) -> bool
 /// (SQL:2003 part 2, 11 and 12), and leaves all as it is. `Memory` is want of memory, and leaves all as it is.
 ///
 /// `steps` counts the look-ups in the board: they follow what the edit touches. A statement without an edit takes none, and one with an edit
-/// no more than its bound, where nothing is missing. The catalogue's list is moved in one pass.
+/// no more than its bound. The catalogue's list is moved in one pass.
 pub fn revise<L: Ledger>(
     alloc: Global,
     limits: &Limits,

@@ -178,7 +178,7 @@ impl Store {
     }
 
     /// Makes of the catalogue what an edit makes of it, unless RESTRICT or the limits refuse that: then, and where memory is wanting, all
-    /// stays as it is. Where nothing is missing, it takes no more look-ups than the bound of the edit, however it ends.
+    /// stays as it is. It takes no more look-ups than the bound of the edit, however it ends.
     pub(crate) fn change<L: Ledger>(
         &mut self,
         alloc: Global,

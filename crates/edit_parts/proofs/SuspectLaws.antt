@@ -1,5 +1,5 @@
 -- The suspects are what is touched, and what the system could grant for the part and has no unmarked node.
-use Rattle.std.proofs.Common.{◌≡◌, ◌⊎◌, ◌↔◌, inl, inr, ℕ, Bool, true, false, List, [], ◌∷◌, Option, Some, None, nat_eq, refl, sym, ◌∙◌, ap, subst, true≢false}
+use Rattle.std.proofs.Common.{◌≡◌, ◌⊎◌, ◌↔◌, inl, inr, ℕ, Bool, true, false, List, [], ◌∷◌, Option, Some, None, nat_eq, refl, sym, ◌∙◌, ap, subst}
 use Rattle.std.specs.List.{Contains, list_any}
 use Rattle.std.specs.declared.cmp.Ordering.TheVariants.{Equal}
 use Rattle.std.proofs.lemmas.Bool.{both_ways, cases_Bool}
@@ -7,8 +7,7 @@ use Rattle.std.proofs.lemmas.Bool.Decides.{not_from_Decides}
 use Rattle.std.proofs.lemmas.List.{get_or_default}
 use Rattle.item_index.specs.Graphs.{Graph, HasKey, IsWhole}
 use Rattle.cat_items.specs.declared.edit.Edit.{Edit}
-use Rattle.cat_items.specs.declared.need.Auth.{Auth}
-use Rattle.cat_items.specs.declared.need.Auth.TheVariants.{Named, Public, System}
+use Rattle.cat_items.specs.declared.need.Auth.TheVariants.{Named, System}
 use Rattle.cat_items.specs.declared.need.Need.{Need}
 use Rattle.cat_items.specs.declared.item.Right.{Right}
 use Rattle.cat_items.specs.declared.item.Schema.{Schema}
@@ -27,17 +26,16 @@ use Rattle.cascade_laws.specs.Topics as on
 use Rattle.cascade_laws.specs.Topics.{IsNeedTopic, IsUnder, Topic}
 use Rattle.cascade_laws.proofs.Spread.{IsFirst, part_topic, row_object}
 use Rattle.cascade_laws.proofs.Stable.{column_of_need}
-use Rattle.board_graph.specs.BoardKeys.{IsHelper, IsKeyOf, IsPlace, ghost_key, of_item, of_possible, topic_key}
+use Rattle.board_graph.specs.BoardKeys.{IsKeyOf, ghost_key, of_item, of_possible, topic_key}
 use Rattle.board_steps.specs.Plans.{HasNoHelper, IsFullBoard}
 use Rattle.board_steps.proofs.Edited.{good_apart}
-use Rattle.board_steps.proofs.Holding.{holds}
 use Rattle.board_marks.specs.Marks.{IsMarked}
 use Rattle.board_marks.proofs.Spreads.{by_topic}
-use Rattle.edit_suspects.specs.Helpers.{is_by_system, may_be_ghost}
+use Rattle.edit_suspects.specs.Helpers.{may_be_ghost}
 use Rattle.edit_suspects.specs.Seeds.{HaveSpread, of_added, of_changed, of_target, of_topic}
 use Rattle.edit_suspects.specs.Suspects.{AreFresh, is_among, is_suspect}
 use Rattle.edit_suspects.proofs.Alikes.{right_among}
-use Rattle.edit_suspects.proofs.GhostKeys.{ghost_helps, ghost_no_topic, one_ghost, possible_is_ghost, possible_is_granted}
+use Rattle.edit_suspects.proofs.GhostKeys.{possible_is_ghost, possible_is_granted}
 use Rattle.edit_suspects.proofs.Spreads.{makes_a_spread, marked_alike, show_number}
 use Rattle.edit_suspects.proofs.Standing.{known_key, row_schema}
 use Rattle.asked_parts.specs.Parts.{IsKept, IsPartOf}
@@ -46,6 +44,7 @@ use Rattle.asked_parts.proofs.RoundLaws.{there_or_not}
 use Rattle.asked_parts.proofs.UnderLaws.{marked, not_marked}
 use Rattle.edit_parts.specs.Parts.{AreBoth, AreTouchedItems, IsLeftOf, IsPossibleSuspect, IsSuspectBy}
 use Rattle.edit_parts.specs.Touched.{IsTouchedItem, IsTouchedRight}
+use Rattle.edit_parts.proofs.GhostLaws.{ghost_known, may_no_helper, own_item}
 use Rattle.edit_parts.proofs.TouchedLaws.{may_is_granted}
 
 -- ---- what rights and their objects ask for
@@ -85,13 +84,6 @@ new_name c z new h = by h.0 h.1 h.2
         new there.0 (there.1, λ d. subst (λ w. item_cmp w (item.Schema z) ≡ Equal) (sym there.2 ∙ get_or_default c there.0 (item.Schema y) d there.1) same)
     by _ there is = absurd is
 
-no_place : (a b : Auth) → is_by_system a b ≡ true → IsPlace a b → ⊥
-no_place System (Named name) e is = is
-no_place System System e is = absurd (true≢false (sym e))
-no_place System Public e is = absurd (true≢false (sym e))
-no_place Public b e is = absurd (true≢false (sym e))
-no_place (Named name) b e is = absurd (true≢false (sym e))
-
 module _ (eq : Item → Item → Bool) (g : Graph Item) (c edited : List Item) (edit : Edit) (marks : List ℕ) (fresh : List Item) (good : IsGood c) (whole : IsWhole eq g) (full : IsFullBoard g c) (fit : IsFit c edit edited)
     (spread : HaveSpread g edit marks) (are_fresh : AreFresh c edited fresh) (itself : (k : Item) → eq k k ≡ true) where
   abbrev suspect : Item → Bool
@@ -106,31 +98,11 @@ module _ (eq : Item → Item → Bool) (g : Graph Item) (c edited : List Item) (
   marks_of : (x k : Item) (n : ℕ) → IsKeyOf c x k → HasKey g n k → suspect x ≡ true → Contains marks n
   marks_of x k n is has = (marked_alike eq g c edited edit marks fresh good whole full fit spread are_fresh itself x k n is has).0
 
-  -- ---- keys of what the system could grant
-
-  own_item : (x : Item) → (¬ (IsHelper x)) → (n : ℕ) → HasKey g n x → Contains c x
-  own_item x other n has = (holds g c no_c full.board x).1 ((n, has), other)
-
-  may_no_helper : (x : Item) → may_be_ghost x ≡ true → IsHelper x → ⊥
-  may_no_helper (item.Held r) e helper = no_place r.grantor r.grantee e helper
-  may_no_helper (item.Grantable r) e helper = no_place r.grantor r.grantee e helper
-  may_no_helper _ e helper = absurd (true≢false (sym e))
-
-  ghost_known : (x : Item) → may_be_ghost x ≡ true → (n : ℕ) → HasKey g n (ghost_key x) → IsKeyOf c x (ghost_key x)
-  ghost_known x may n has = elim (full.board.helpers n (ghost_key x) has) [
-    | inl of ↦ by of.0 of.1
-    | inr topic ↦ absurd (ghost_no_topic x topic.0 may topic.1 topic.2)
-  ]
-    where
-      by : (z : Item) → IsKeyOf c z (ghost_key x) → IsKeyOf c x (ghost_key x)
-      by z (of_item h e) = absurd (no_c z h (subst IsHelper e (ghost_helps x may)))
-      by z (of_possible possible none e) = subst (λ w. IsKeyOf c w (ghost_key x)) (sym (one_ghost x z may (possible_is_ghost c z possible) e)) (of_possible possible none e)
-
   -- a suspect right by the system has no unmarked node
   no_unmarked : (x : Item) → may_be_ghost x ≡ true → suspect x ≡ true → IsMarked g marks x × IsMarked g marks (ghost_key x)
   no_unmarked x may sx = (
-    λ n has. marks_of x x n (of_item (own_item x (may_no_helper x may) n has) refl) has sx,
-    λ n has. marks_of x (ghost_key x) n (ghost_known x may n has) has sx,
+    λ n has. marks_of x x n (of_item (own_item g c no_c full x (may_no_helper x may) n has) refl) has sx,
+    λ n has. marks_of x (ghost_key x) n (ghost_known g c no_c full x may n has) has sx,
   )
 
   -- what stands, or could be granted, and has no unmarked node is a suspect
@@ -152,7 +124,7 @@ module _ (eq : Item → Item → Bool) (g : Graph Item) (c edited : List Item) (
   kept_no_right : (y : Item) → IsTouchedRight g marks y → IsKept g c marks y → ⊥
   kept_no_right y right kept = kept.1.2 (marks_of y y kept.1.0 (of_item kept.0 refl) kept.1.1 (elim right.2.1 [
     | inl has ↦ shown y y right.0 (of_item kept.0 refl) has right.1
-    | inr has ↦ shown y (ghost_key y) right.0 (ghost_known y right.2.0 right.0 has) has right.1
+    | inr has ↦ shown y (ghost_key y) right.0 (ghost_known g c no_c full y right.2.0 right.0 has) has right.1
   ]))
 
   pub part_left : (suspects rights all part left : List Item) → ((x : Item) → Contains rights x → IsTouchedRight g marks x) → AreBoth suspects rights all → IsPartOf g c marks all part → IsLeftOf suspects all part left → IsPartOf g c marks suspects left
@@ -333,7 +305,7 @@ module _ (eq : Item → Item → Bool) (g : Graph Item) (c edited : List Item) (
 
     touched_here : (y : Item) → IsTouchedItem g marks edit y → Contains edited y
     touched_here y (inr added) = (fit.is_edited.members y).1 (inr added)
-    touched_here y (inl left) = (fit.is_edited.members y).1 (inl (own_item y left.2.1 left.0 left.2.0, left.2.2.0, left.2.2.1))
+    touched_here y (inl left) = (fit.is_edited.members y).1 (inl (own_item g c no_c full y left.2.1 left.0 left.2.0, left.2.2.0, left.2.2.1))
 
     -- what the part has and is no right stands in the edited list
     back : (y : Item) → may_be_ghost y ≡ false → Contains part y → Contains edited y
@@ -391,7 +363,7 @@ module _ (eq : Item → Item → Bool) (g : Graph Item) (c edited : List Item) (
 
       to_touched : IsTouchedItem g marks edit x → suspect x ≡ true
       to_touched (inr added) = (makes_a_spread eq g c edited edit marks fresh good whole full fit spread are_fresh f with_f).added x added
-      to_touched (inl left) = shown x x left.0 (of_item (own_item x left.2.1 left.0 left.2.0) refl) left.2.0 left.1
+      to_touched (inl left) = shown x x left.0 (of_item (own_item g c no_c full x left.2.1 left.0 left.2.0) refl) left.2.0 left.1
 
       pub suspects_by_part : (Contains f x × (suspect x ≡ true)) ↔ IsSuspectBy g marks edit part x
       suspects_by_part = (

@@ -1,3 +1,4 @@
 pub mod Possible
 pub mod Touched
 pub mod Parts
+pub mod Whole

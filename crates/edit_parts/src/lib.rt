@@ -6,7 +6,9 @@ mod possible;
 mod putting;
 mod suspects;
 mod touched;
+mod whole;
 
 pub use laws::suspects_are_touched_or_possible_for_the_part;
 pub use suspects::{Suspected, suspects_of};
 pub use touched::{TouchedItems, touched_items};
+pub use whole::suspects_by_all;

@@ -137,7 +137,11 @@ fn put_suspects<S: BuildHasher + Drop, L: Ledger>(
 }
 
 /// Copies of the touched items and rights in one list.
-fn joined(alloc: Global, items: &Catalogue, rights: &Catalogue) -> Result<Catalogue, AllocError>
+pub(crate) fn joined(
+    alloc: Global,
+    items: &Catalogue,
+    rights: &Catalogue,
+) -> Result<Catalogue, AllocError>
     requires { (x : Item) → Contains rights.now.items x → IsRightOrRoleGrant x }
     ensures order { IfOk result (λ all. IsInOrder all.items) }
     ensures members { IfOk result (λ all. (x : Item) → Contains all.items x ↔ (Contains items.now.items x ⊎ Contains rights.now.items x)) }

@@ -77,20 +77,20 @@ fit_of_adding c good = record {
 new_by_adding : (c : List Item) → IsGood c → IsNew [] (adds c) c
 new_by_adding c good = record { edited = c; is_edited = edited_by_adding c good.survivors.order; all = good.all; with_system = good.with_system; survivors = good.survivors }
 
-pub adding_fits : (g : Graph Item) (c : List Item) (edit : Edit) → IsWhole same.ghosts.eq g → g ≡ no_graph → edit ≡ adds c → IsGood c → IsFitOn g [] c edit
-adding_fits g c edit whole empty is good = record {
+pub adding_fits : (g : Graph Item) (nothing c : List Item) (edit : Edit) → nothing ≡ [] → IsWhole same.ghosts.eq g → g ≡ no_graph → edit ≡ adds c → IsGood c → IsFitOn g nothing c edit
+adding_fits g nothing c edit none whole empty is good = subst (λ l. IsFitOn g l c edit) (sym none) (record {
   good = nothing_good;
   whole = whole;
   full = subst (λ h. IsFullBoard h []) (sym empty) empty_board;
   fit = subst (λ e. IsFit [] e c) (sym is) (fit_of_adding c good);
-}
+})
 
 -- a board of what comes of it is that of the catalogue
-pub filled : (g : Graph Item) (c new : List Item) (edit : Edit) → edit ≡ adds c → IsGood c → IsNew [] edit new → IsFullBoard g new → IsBoardOf g c
-filled g c new edit is good made full = record {
+pub filled : (g : Graph Item) (nothing c new : List Item) (edit : Edit) → nothing ≡ [] → edit ≡ adds c → IsGood c → IsNew nothing edit new → IsFullBoard g new → IsBoardOf g c
+filled g nothing c new edit none is good made full = record {
   order = good.survivors.order;
   no_helper = good_apart c good;
-  full = subst (IsFullBoard g) (one_new [] (adds c) new c (subst (λ e. IsNew [] e new) is made) (new_by_adding c good)) full;
+  full = subst (IsFullBoard g) (one_new [] (adds c) new c (subst (λ e. IsNew [] e new) is (subst (λ l. IsNew l edit new) none made)) (new_by_adding c good)) full;
 }
 
 -- ---- a cascade

@@ -71,11 +71,11 @@ pub part_for : (g : Graph Item) (edit : Edit) (marks : List ℕ) (suspects part 
 part_for g edit marks suspects part is c edited f fresh on are_fresh = is c edited fresh on.good on.whole on.full on.fit are_fresh
 
 -- the part has the suspects
-pub fits_within : (g : Graph Item) (edit : Edit) (marks : List ℕ) (suspects part : List Item) → FitsSome g edit → IsPartFor g edit marks suspects part → IsWithin suspects part
-fits_within g edit marks suspects part fits is =
-    let all = fit_on g fits.0 fits.1 edit fits.2 in
-    let fresh = fresh_rights g fits.0 fits.1 all.0 edit all.1 in
-    (is fits.0 fits.1 all.0 fresh.0 all.1 fresh.1).has_suspects
+pub fits_within : (g : Graph Item) (edit : Edit) (marks : List ℕ) (suspects part : List Item) → (c : List Item) → FitsSome g c edit → IsPartFor g edit marks suspects part → IsWithin suspects part
+fits_within g edit marks suspects part c fits is =
+    let all = fit_on g c fits.0 edit fits.1 in
+    let fresh = fresh_rights g c fits.0 all.0 edit all.1 in
+    (is c fits.0 all.0 fresh.0 all.1 fresh.1).has_suspects
 
 pub judgement : (g : Graph Item) (edit : Edit) (marks : List ℕ) (suspects part found : List Item) → AreTouched same.ghosts.eq g edit marks → IsInOrder suspects → ListsSuspects g edit marks suspects → IsPartFor g edit marks suspects part → IsFoundIn part suspects found
     → (c edited f fresh : List Item) → IsEditOn g c edited f edit → AreFresh c edited fresh → IsJudgement g c edited f edit marks fresh suspects found

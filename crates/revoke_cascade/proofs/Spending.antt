@@ -1,14 +1,13 @@
 -- How many look-ups it takes to make an edit ready.
-use Rattle.std.proofs.Common.{◌≡◌, ◌-◌, ℕ, ◌+◌, ◌≤◌, List, length, subst, sym, arith}
-use Rattle.std.specs.Prelude.{◌*◌}
-use Rattle.std.specs.List.{Contains, sum_by}
+use Rattle.std.proofs.Common.{◌≡◌, ◌-◌, inl, inr, ℕ, ◌+◌, ◌≤◌, List, length, subst, sym, arith}
+use Rattle.std.specs.List.{sum_by}
 use Rattle.item_index.specs.Graphs.{Graph}
 use Rattle.link_marks.specs.Reached.{look_ups}
 use Rattle.cat_items.specs.contracts.item.ItemPartialEq.TheImpl as same
 use Rattle.cat_items.specs.declared.edit.Edit.{Edit}
 use Rattle.cat_items.specs.declared.item.Item.{Item}
-use Rattle.cat_items.specs.Survivors.{AreSurvivors, IsSystemRight, IsWithSystem}
-use Rattle.board_steps.specs.Plans.{HasNoHelper, IsFullBoard}
+use Rattle.cat_items.specs.Bound.{IsBound}
+use Rattle.cat_items.specs.Survivors.{AreSurvivors, IsWithSystem}
 use Rattle.board_steps.proofs.Edited.{good_apart}
 use Rattle.board_plans.specs.declared.arrivals.Arrival.{Arrival}
 use Rattle.board_plans.specs.Arrivals.{links_by}
@@ -18,15 +17,13 @@ use Rattle.board_plans.specs.Planning.{AreArrivals}
 use Rattle.board_changes.specs.Leaving.{look_ups_with}
 use Rattle.edit_suspects.specs.Seeds.{AreTouched, seed_look_ups}
 use Rattle.edit_suspects.specs.Suspects.{AreFresh, is_suspect}
-use Rattle.asked_parts.specs.Parts.{HasAsked, IsPartOf}
-use Rattle.asked_parts.specs.Under as under
-use Rattle.edit_parts.specs.Parts.{HasAllTouched}
 use Rattle.cascade_bound.specs.Judging.{JudgesWithin}
 use Rattle.cascade_bound.specs.Marked.{AreTouchedOn}
 use Rattle.cascade_bound.proofs.Owning.{begun_within, touched_on}
+use Rattle.cascade_bound.proofs.Paid as paid
 use Rattle.cascade_bound.proofs.Whole.{judged_within, made_within, planned_within}
 use Rattle.edit_arrivals.specs.Suspects.{IsFoundBy}
-use Rattle.revoke_cascade.specs.Prepared.{IsFitOn, IsMeasured}
+use Rattle.revoke_cascade.specs.Prepared.{IsFitOn, TakesToJudge}
 use Rattle.revoke_cascade.proofs.Judged.{found_by, makes_new}
 use Rattle.revoke_cascade.proofs.Judged.{survive as survives}
 use Rattle.revoke_cascade.proofs.Known.{fresh_rights}
@@ -36,14 +33,9 @@ use Rattle.revoke_cascade.proofs.Making.{Arrive, Judges, fit_on}
 abbrev pub Reaches : Graph Item → Edit → ℕ → ℕ → Type 0
 Reaches g edit old new = (marks : List ℕ) → AreTouched same.ghosts.eq g edit marks → new ≤ old + seed_look_ups edit + sum_by (look_ups g.dependents) marks
 
--- and to judge it
-abbrev pub Judging : Graph Item → Edit → List ℕ → ℕ → ℕ → Type 0
-Judging g edit marks old new = (c all part keys rights : List Item) → HasNoHelper c → IsFullBoard g c → HasAllTouched g marks edit part all → IsPartOf g c marks all part → HasAsked part all keys → ((x : Item) → IsSystemRight part x → Contains rights x)
-    → new ≤ old + (length marks + (length all + (sum_by (under.look_ups g) keys + 2 * length rights)))
-
--- in all, for each catalogue that the board is of
-abbrev pub IsFew : Graph Item → Edit → ℕ → ℕ → Type 0
-IsFew g edit old new = (c edited : List Item) (bound : ℕ) → IsFitOn g c edited edit → IsMeasured c edited edit bound → new ≤ old + bound
+-- in all, whatever the edit makes of the catalogue
+abbrev pub IsFew : Graph Item → List Item → Edit → ℕ → ℕ → Type 0
+IsFew g c edit old new = (edited : List Item) (bound : ℕ) → IsFitOn g c edited edit → IsBound c edit edited bound → new ≤ old + bound
 
 -- what comes for the suspects of the new catalogue
 record HaveCome (g : Graph Item) (c edited : List Item) (edit : Edit) (marks : List ℕ) (arrivals : List Arrival) : Type 0 where
@@ -75,52 +67,66 @@ come g c edited edit marks fits suspects found judges arrivals arrive =
       are = arrive c is.2.known.on.good.all edited f is.0 to.0 edit suspect by is.2.known.listed;
     }
 
-module _ (g : Graph Item) (edit : Edit) (start : ℕ) where
-  module _ (c edited : List Item) (bound : ℕ) (fits : IsFitOn g c edited edit) (measured : IsMeasured c edited edit bound) where
+module _ (g : Graph Item) (c : List Item) (edit : Edit) (start : ℕ) where
+  module _ (edited : List Item) (bound : ℕ) (fits : IsFitOn g c edited edit) (b : IsBound c edit edited bound) where
     reached_within : (now : ℕ) → Reaches g edit start now → now ≤ start + bound
     reached_within now reaches =
-        omega (arith, begun_within g edit fits.whole c edited bound fits.good fits.full fits.fit measured.0 (now - start) (λ marks touched. omega (arith, reaches marks touched)))
+        omega (arith, begun_within g edit fits.whole c edited bound fits.good fits.full fits.fit b (now - start) (λ marks touched. omega (arith, reaches marks touched)))
 
-    module _ (marks : List ℕ) (touched : AreTouched same.ghosts.eq g edit marks) (first : ℕ) (reaches : Reaches g edit start first) (second : ℕ) (judging : Judging g edit marks first second) where
+    module _ (marks : List ℕ) (touched : AreTouched same.ghosts.eq g edit marks) (first : ℕ) (reaches : Reaches g edit start first) (second : ℕ) (judging : TakesToJudge g c edit marks first second) where
       on : (own : List ℕ) × AreTouchedOn g c edit marks own
       on = touched_on g edit fits.whole c (good_apart c fits.good) fits.full marks touched fits.fit.target fits.fit.changed
 
       abbrev spent : ℕ
       spent = second - (first + length marks)
 
-      takes : JudgesWithin g c edit marks spent
-      takes all part keys rights has is asked of = omega (arith, judging c all part keys rights (good_apart c fits.good) fits.full has is asked of)
-
       judged_few : second ≤ start + bound
-      judged_few = omega (arith, judged_within g c edited edit marks on.0 on.1 fits.good fits.fit bound measured.0 measured.1 spent takes, reaches marks touched)
+      judged_few = elim judging [
+        | inl read ↦ omega (arith, read, paid.begins_within g c edited edit marks on.0 on.1 fits.good fits.fit bound b, reaches marks touched)
+        | inr (none, asked) ↦
+            let takes : JudgesWithin g c edit marks spent = λ all part keys rights has is keyed of. omega (arith, asked all part keys rights (good_apart c fits.good) fits.full has is keyed of) in
+            omega (arith, judged_within g c edited edit marks on.0 on.1 fits.good fits.fit bound b (none edited b.u b.spoken_of.members) spent takes, reaches marks touched)
+      ]
 
       module _ (arrivals : List Arrival) (have : HaveCome g c edited edit marks arrivals) (third : ℕ) (plans : third ≤ second + sum_by (leaving.look_ups g marks) marks + sum_by (λ a. length (links_by a)) arrivals) where
         planned_few : third ≤ start + bound
-        planned_few =
-            let all = planned_within g c edited edit marks on.0 on.1 fits.good fits.fit bound measured.0 measured.1 have.f have.fresh have.new have.with_f have.are_fresh have.survive arrivals have.are spent takes in
-            omega (arith, plans, all, reaches marks touched)
+        planned_few = elim judging [
+          | inl read ↦
+              let all = paid.comes_within g c edited edit marks on.0 on.1 fits.good fits.fit bound b have.f have.fresh have.new have.with_f have.are_fresh have.survive arrivals have.are in
+              omega (arith, read, plans, all, reaches marks touched)
+          | inr (none, asked) ↦
+              let takes : JudgesWithin g c edit marks spent = λ all part keys rights has is keyed of. omega (arith, asked all part keys rights (good_apart c fits.good) fits.full has is keyed of) in
+              let all = planned_within g c edited edit marks on.0 on.1 fits.good fits.fit bound b (none edited b.u b.spoken_of.members) have.f have.fresh have.new have.with_f have.are_fresh have.survive arrivals have.are spent takes in
+              omega (arith, plans, all, reaches marks touched)
+        ]
 
         read_few : (out : List ℕ) → AreOutgoing g marks out → third + sum_by (λ n. 1 + look_ups_with g n) out ≤ start + bound
-        read_few out outgoing =
-            let all = made_within g c edited edit marks on.0 on.1 fits.good fits.fit bound measured.0 measured.1 have.f have.fresh have.new have.with_f have.are_fresh have.survive arrivals have.are spent takes out outgoing in
-            omega (arith, plans, all, reaches marks touched)
+        read_few out outgoing = elim judging [
+          | inl read ↦
+              let all = paid.within_bound g c edited edit marks on.0 on.1 fits.good fits.fit bound b have.f have.fresh have.new have.with_f have.are_fresh have.survive arrivals have.are out outgoing in
+              omega (arith, read, plans, all, reaches marks touched)
+          | inr (none, asked) ↦
+              let takes : JudgesWithin g c edit marks spent = λ all part keys rights has is keyed of. omega (arith, asked all part keys rights (good_apart c fits.good) fits.full has is keyed of) in
+              let all = made_within g c edited edit marks on.0 on.1 fits.good fits.fit bound b (none edited b.u b.spoken_of.members) have.f have.fresh have.new have.with_f have.are_fresh have.survive arrivals have.are spent takes out outgoing in
+              omega (arith, plans, all, reaches marks touched)
+        ]
 
   -- ---- step by step
 
-  pub reached_few : (now : ℕ) → Reaches g edit start now → IsFew g edit start now
-  reached_few now reaches c edited bound fits measured = reached_within c edited bound fits measured now reaches
+  pub reached_few : (now : ℕ) → Reaches g edit start now → IsFew g c edit start now
+  reached_few now reaches edited bound fits b = reached_within edited bound fits b now reaches
 
   module _ (marks : List ℕ) (touched : AreTouched same.ghosts.eq g edit marks) (first : ℕ) (reaches : Reaches g edit start first) where
-    pub judging_few : (now : ℕ) → Judging g edit marks first now → IsFew g edit start now
-    judging_few now judging c edited bound fits measured = judged_few c edited bound fits measured marks touched first reaches now judging
+    pub judging_few : (now : ℕ) → TakesToJudge g c edit marks first now → IsFew g c edit start now
+    judging_few now judging edited bound fits b = judged_few edited bound fits b marks touched first reaches now judging
 
-    module _ (second : ℕ) (judging : Judging g edit marks first second) (suspects found : List Item) (judges : Judges g edit marks suspects found) (lent arrivals : List Arrival) (value : lent ≡ arrivals) (arrive : Arrive found suspects arrivals) (third : ℕ)
+    module _ (second : ℕ) (judging : TakesToJudge g c edit marks first second) (suspects found : List Item) (judges : Judges g edit marks suspects found) (lent arrivals : List Arrival) (value : lent ≡ arrivals) (arrive : Arrive found suspects arrivals) (third : ℕ)
         (plans : third ≤ second + sum_by (leaving.look_ups g marks) marks + sum_by (λ a. length (links_by a)) lent) where
       same_plans : third ≤ second + sum_by (leaving.look_ups g marks) marks + sum_by (λ a. length (links_by a)) arrivals
       same_plans = subst (λ (l : List Arrival). third ≤ second + sum_by (leaving.look_ups g marks) marks + sum_by (λ a. length (links_by a)) l) value plans
 
-      pub planning_few : IsFew g edit start third
-      planning_few c edited bound fits measured = planned_few c edited bound fits measured marks touched first reaches second judging arrivals (come g c edited edit marks fits suspects found judges arrivals arrive) third same_plans
+      pub planning_few : IsFew g c edit start third
+      planning_few edited bound fits b = planned_few edited bound fits b marks touched first reaches second judging arrivals (come g c edited edit marks fits suspects found judges arrivals arrive) third same_plans
 
-      pub reading_few : (out : List ℕ) → AreOutgoing g marks out → (c edited : List Item) (bound : ℕ) → IsFitOn g c edited edit → IsMeasured c edited edit bound → third + sum_by (λ n. 1 + look_ups_with g n) out ≤ start + bound
-      reading_few out outgoing c edited bound fits measured = read_few c edited bound fits measured marks touched first reaches second judging arrivals (come g c edited edit marks fits suspects found judges arrivals arrive) third same_plans out outgoing
+      pub reading_few : (out : List ℕ) → AreOutgoing g marks out → (edited : List Item) (bound : ℕ) → IsFitOn g c edited edit → IsBound c edit edited bound → third + sum_by (λ n. 1 + look_ups_with g n) out ≤ start + bound
+      reading_few out outgoing edited bound fits b = read_few edited bound fits b marks touched first reaches second judging arrivals (come g c edited edit marks fits suspects found judges arrivals arrive) third same_plans out outgoing

@@ -1,22 +1,24 @@
 -- An edit on the board of its catalogue, and what is made ready of it.
-use Rattle.std.specs.Prelude.{◌≡◌, ◌↔◌, ◌⊎◌, ℕ, Bool, true, List}
-use Rattle.std.specs.List.{Contains}
+use Rattle.std.specs.Prelude.{◌≡◌, ◌↔◌, ◌⊎◌, ◌+◌, ◌*◌, ◌≤◌, ℕ, Bool, true, List, length}
+use Rattle.std.specs.List.{Contains, sum_by}
 use Rattle.finite_chains.specs.Chains.{IsWithin}
 use Rattle.item_index.specs.Graphs.{Graph, IsWhole}
 use Rattle.cat_items.specs.declared.edit.Edit.{Edit}
 use Rattle.cat_items.specs.declared.item.Item.{Item}
 use Rattle.cat_items.specs.contracts.item.ItemPartialEq.TheImpl as same
-use Rattle.cat_items.specs.Bound.{IsBound}
+use Rattle.cat_items.specs.Bound.{IsSpokenOf}
 use Rattle.cat_items.specs.Edits.{IsNew}
 use Rattle.cat_items.specs.Fit.{IsFit}
 use Rattle.cat_items.specs.Good.{IsGood}
-use Rattle.cat_items.specs.Survivors.{IsWithSystem}
+use Rattle.cat_items.specs.Survivors.{IsSystemRight, IsWithSystem}
 use Rattle.role_graph.specs.Marked.{marked}
 use Rattle.edit_rules.specs.Chosen.{AreChosen}
-use Rattle.board_steps.specs.Plans.{IsFullBoard}
+use Rattle.board_steps.specs.Plans.{HasNoHelper, IsFullBoard}
 use Rattle.edit_suspects.specs.Seeds.{AreTouched}
 use Rattle.edit_suspects.specs.Suspects.{AreFresh, is_suspect}
-use Rattle.asked_parts.specs.Parts.{IsPartOf}
+use Rattle.asked_parts.specs.Parts.{HasAsked, IsPartOf}
+use Rattle.asked_parts.specs.Under.{look_ups}
+use Rattle.edit_parts.specs.Parts.{HasAllTouched}
 use Rattle.part_rescue.specs.Rescued.{AreRescued}
 use Rattle.board_plans.specs.declared.plan.Plan.{Plan}
 use Rattle.board_changes.specs.Readiness.{IsPlanned}
@@ -50,8 +52,8 @@ pub record IsFitOn (g : Graph Item) (c edited : List Item) (edit : Edit) : Type 
   pub full : IsFullBoard g c
   pub fit : IsFit c edit edited
 
-abbrev pub FitsSome : Graph Item → Edit → Type 0
-FitsSome g edit = (c edited : List Item) × IsFitOn g c edited edit
+abbrev pub FitsSome : Graph Item → List Item → Edit → Type 0
+FitsSome g c edit = (edited : List Item) × IsFitOn g c edited edit
 
 -- what is rescued of the part
 abbrev pub IsFoundIn : List Item → List Item → List Item → Type 0
@@ -80,6 +82,13 @@ pub record IsOutcome (g : Graph Item) (c : List Item) (edit : Edit) (new : List 
   pub planned : (suspect : Item → Bool) × IsPlanned same.ghosts.eq g c new suspect plan
   pub tells : Tells c edit suspects found new
 
--- this is the bound of the edit, and nothing is missing
-abbrev pub IsMeasured : List Item → List Item → Edit → ℕ → Type 0
-IsMeasured c edited edit bound = (b : IsBound c edit edited bound) × MissesNothing b.u edit
+-- whatever the edit makes of the catalogue, nothing is missing that its added items ask for
+abbrev pub NothingIsMissing : List Item → Edit → Type 0
+NothingIsMissing c edit = (edited u : List Item) → ((x : Item) → Contains u x ↔ IsSpokenOf c edit edited x) → MissesNothing u edit
+
+-- No more look-ups than the key of each number that is touched; or nothing is missing, and no more than any part tells that has all that is touched.
+abbrev pub TakesToJudge : Graph Item → List Item → Edit → List ℕ → ℕ → ℕ → Type 0
+TakesToJudge g c edit marks before after = (after ≤ before + length marks)
+    ⊎ (NothingIsMissing c edit
+    × ((all part keys rights : List Item) → HasNoHelper c → IsFullBoard g c → HasAllTouched g marks edit part all → IsPartOf g c marks all part → HasAsked part all keys → ((x : Item) → IsSystemRight part x → Contains rights x)
+    → after ≤ before + (length marks + (length all + (sum_by (look_ups g) keys + 2 * length rights)))))

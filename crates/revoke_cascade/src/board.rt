@@ -5,6 +5,7 @@ ghost use Rattle.item_index.specs.Graphs.{AreLinks, Graph, no_graph, with_spare}
 ghost use Rattle.item_index.specs.Undo.{IsAsBefore};
 ghost use Rattle.cat_items.specs.contracts.item.ItemPartialEq.TheImpl as same;
 ghost use Rattle.cat_items.specs.declared.item.Item.{Item};
+ghost use Rattle.cat_items.specs.Bound.{IsBound};
 ghost use Rattle.cat_items.specs.Catalogues.{IsInOrder};
 ghost use Rattle.cat_items.specs.Fit.{IsFit};
 ghost use Rattle.cat_items.specs.Good.{IsGood};
@@ -13,7 +14,7 @@ ghost use Rattle.board_changes.specs.Left.{IsAsLeft};
 ghost use Rattle.board_changes.specs.Readiness.{IsPlanned, IsReady, TakesBack};
 ghost use Rattle.board_steps.specs.Plans.{IsFullBoard};
 ghost use Rattle.revoke_cascade.specs.Boards.{IsBoardOf, IsStillTaken, IsTaken, adds};
-ghost use Rattle.revoke_cascade.specs.Prepared.{IsMeasured, IsOutcome};
+ghost use Rattle.revoke_cascade.specs.Prepared.{IsOutcome};
 
 use crate::cascade::Taken;
 use crate::preparing::{Prepared, prepare_on};
@@ -82,7 +83,8 @@ fn fill<L: Ledger>(
     let mut steps: Steps<L> = Steps::new(blank);
     let edit = adding(alloc, c)?;
     index.keeps_whole();
-    let prepared = prepare_on(alloc, index, &edit, &mut steps)?;
+    let nothing = Catalogue::of_sorted(Vec::new(alloc));
+    let prepared = prepare_on(alloc, index, &nothing, &edit, &mut steps)?;
     let _ = run(index, prepared.ready);
     Ok(())
 }
@@ -102,18 +104,19 @@ impl Board {
     pub(crate) fn prepare<L: Ledger>(
         &mut self,
         alloc: Global,
+        c: &Catalogue,
         edit: &Edit,
         steps: &mut Steps<L>,
     ) -> Result<Prepared, AllocError>
-        requires { (c edited : List Item) × IsGood c × Holds self.old c × IsFit c edit.now edited }
+        requires { (edited : List Item) × IsGood c.now.items × Holds self.old c.now.items × IsFit c.now.items edit.now edited }
         ensures board { self.new ≡ with_spare self.old self.new.spare_keys self.new.spare_links }
         ensures grown { (self.old.spare_keys ≤ self.new.spare_keys) × (self.old.spare_links ≤ self.new.spare_links) }
         ensures ready { IfOk result (λ prepared. IsReady same.ghosts.eq self.new prepared.ready) }
-        ensures outcome { IfOk result (λ prepared. (c edited : List Item) → IsGood c → Holds self.old c → IsFit c edit.now edited → (new : List Item) × IsOutcome self.new c edit.now new prepared.ready.plan prepared.suspects.items prepared.found.items) }
-        ensures few { (c edited : List Item) (bound : ℕ) → IsGood c → Holds self.old c → IsFit c edit.now edited → IsMeasured c edited edit.now bound → steps.new ≤ steps.old + bound }
+        ensures outcome { IfOk result (λ prepared. (edited : List Item) → IsGood c.now.items → Holds self.old c.now.items → IsFit c.now.items edit.now edited → (new : List Item) × IsOutcome self.new c.now.items edit.now new prepared.ready.plan prepared.suspects.items prepared.found.items) }
+        ensures few { (edited : List Item) (bound : ℕ) → IsGood c.now.items → Holds self.old c.now.items → IsFit c.now.items edit.now edited → IsBound c.now.items edit.now edited bound → steps.new ≤ steps.old + bound }
     {
         self.index.keeps_whole();
-        prepare_on(alloc, &mut self.index, edit, steps)
+        prepare_on(alloc, &mut self.index, c, edit, steps)
     }
 
     /// Carries out what is ready.

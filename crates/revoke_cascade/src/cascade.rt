@@ -8,7 +8,6 @@ ghost use Rattle.cat_items.specs.Bound.{IsBound};
 ghost use Rattle.cat_items.specs.Fit.{IsFit};
 ghost use Rattle.cat_items.specs.Good.{IsGood};
 ghost use Rattle.board_graph.specs.Boards.{Holds};
-ghost use Rattle.cascade_bound.specs.Missing.{MissesNothing};
 ghost use Rattle.revoke_cascade.specs.Boards.{IsCascade, IsTaken};
 
 use crate::board::Board;
@@ -36,8 +35,7 @@ pub struct Taken {
 
 impl Cascade {
     /// Finds what an edit does to a catalogue, and takes all memory that it takes to carry it out on its board, and to take it back. The
-    /// board stays as it is, but for more room. Where nothing is missing that the added items ask for, it takes no more look-ups than the bound of
-    /// the edit. `Err` is want of memory.
+    /// board stays as it is, but for more room. It takes no more look-ups than the bound of the edit. `Err` is want of memory.
     pub fn prepare<L: Ledger>(
         alloc: Global,
         board: &mut Board,
@@ -52,9 +50,9 @@ impl Cascade {
         ensures grown { (board.old.spare_keys ≤ board.new.spare_keys) × (board.old.spare_links ≤ board.new.spare_links) }
         ensures held { Holds board.new c.now.items }
         ensures cascade { IfOk result (λ cascade. (new : List Item) × IsCascade board.new c.now.items edit.now new cascade) }
-        ensures few { (edited : List Item) (bound : ℕ) (b : IsBound c.now.items edit.now edited bound) → IsFit c.now.items edit.now edited → MissesNothing b.u edit.now → steps.new ≤ steps.old + bound }
+        ensures few { (edited : List Item) (bound : ℕ) → IsBound c.now.items edit.now edited bound → IsFit c.now.items edit.now edited → steps.new ≤ steps.old + bound }
     {
-        let prepared = board.prepare(alloc, edit, steps)?;
+        let prepared = board.prepare(alloc, c, edit, steps)?;
         let effects = effects_of(alloc, c, edit, &prepared.suspects, &prepared.found)?;
         Ok(Cascade {
             effects,

@@ -1,9 +1,5 @@
-use Rattle.revoke_cascade.proofs.Known.{touched_are_nodes}
 use Rattle.revoke_cascade.proofs.Making.{fits_within, judgement, lists_of, part_for}
 use Rattle.revoke_cascade.proofs.judging.judge.Goals as goal
-
-pub suspects_of-requires-clause-nodes : goal.suspects_of-requires-clause-nodes
-suspects_of-requires-clause-nodes g c = touched_are_nodes c.args.board.now c.args.edit.now c.args.marks.now.keys c.requires.fits.2.whole c.requires.touched
 
 pub found_in-requires : goal.found_in-requires
 found_in-requires g c =
@@ -12,7 +8,7 @@ found_in-requires g c =
     let marks = c.args.marks.now.keys in
     let suspects = c.in_ok-suspects.field-0.suspects.items in
     let part = c.in_ok-suspects.field-0.part.items in
-    fits_within graph edit marks suspects part c.requires.fits (part_for graph edit marks suspects part c.in_ok-suspects.ensures.part)
+    fits_within graph edit marks suspects part c.args.c.now.items c.requires.fits (part_for graph edit marks suspects part c.in_ok-suspects.ensures.part)
 
 pub returns-clause-judged : goal.returns-clause-judged
 returns-clause-judged g c =
@@ -24,10 +20,10 @@ returns-clause-judged g c =
     judgement graph edit marks suspects part c.in_ok-found.found.items c.requires.touched c.in_ok-suspects.ensures.order (lists_of graph edit marks suspects c.in_ok-suspects.ensures.suspects) (part_for graph edit marks suspects part c.in_ok-suspects.ensures.part) c.in_ok-found.ensures
 
 pub returns-in_err-suspects-clause-ticks : goal.returns-in_err-suspects-clause-ticks
-returns-in_err-suspects-clause-ticks g c = c.suspects_of.ensures.ticks
+returns-in_err-suspects-clause-ticks g c = c.suspected.ensures.ticks
 
 pub returns-in_err-found-clause-ticks : goal.returns-in_err-found-clause-ticks
-returns-in_err-found-clause-ticks g c = c.suspects_of.ensures.ticks
+returns-in_err-found-clause-ticks g c = c.suspected.ensures.ticks
 
 pub returns-clause-ticks : goal.returns-clause-ticks
-returns-clause-ticks g c = c.suspects_of.ensures.ticks
+returns-clause-ticks g c = c.suspected.ensures.ticks

@@ -3,7 +3,7 @@ use Rattle.board_graph.specs.Boards.{Holds}
 use Rattle.revoke_cascade.proofs.cascade.Cascade.prepare.Goals as goal
 
 pub prepare-requires : goal.prepare-requires
-prepare-requires g c = (c.args.c.now.items, c.requires.fit.0, c.requires.good, c.requires.held, c.requires.fit.1)
+prepare-requires g c = (c.requires.fit.0, c.requires.good, c.requires.held, c.requires.fit.1)
 
 pub effects_of-requires-clause-target : goal.effects_of-requires-clause-target
 effects_of-requires-clause-target g c = c.requires.fit.1.target_order
@@ -16,8 +16,7 @@ effects_of-requires-clause-added g c = c.requires.fit.1.added_order
 
 pub returns-clause-cascade : goal.returns-clause-cascade
 returns-clause-cascade g c =
-    let old = c.args.c.now.items in
-    let to = c.in_ok-prepared.ensures.outcome old c.requires.fit.0 c.requires.good c.requires.held c.requires.fit.1 in (
+    let to = c.in_ok-prepared.ensures.outcome c.requires.fit.0 c.requires.good c.requires.held c.requires.fit.1 in (
       to.0,
       record {
         made = to.1.made;
@@ -37,10 +36,10 @@ pub returns-clause-held : goal.returns-clause-held
 returns-clause-held g c = subst (λ h. Holds h c.args.c.now.items) (sym c.prepare.ensures.board) c.requires.held
 
 pub returns-in_err-prepared-clause-few : goal.returns-in_err-prepared-clause-few
-returns-in_err-prepared-clause-few g c = λ edited bound b fit misses. c.prepare.ensures.few c.args.c.now.items edited bound c.requires.good c.requires.held fit (b, misses)
+returns-in_err-prepared-clause-few g c = λ edited bound b fit. c.prepare.ensures.few edited bound c.requires.good c.requires.held fit b
 
 pub returns-in_err-effects-clause-few : goal.returns-in_err-effects-clause-few
-returns-in_err-effects-clause-few g c = λ edited bound b fit misses. c.prepare.ensures.few c.args.c.now.items edited bound c.requires.good c.requires.held fit (b, misses)
+returns-in_err-effects-clause-few g c = λ edited bound b fit. c.prepare.ensures.few edited bound c.requires.good c.requires.held fit b
 
 pub returns-clause-few : goal.returns-clause-few
-returns-clause-few g c = λ edited bound b fit misses. c.prepare.ensures.few c.args.c.now.items edited bound c.requires.good c.requires.held fit (b, misses)
+returns-clause-few g c = λ edited bound b fit. c.prepare.ensures.few edited bound c.requires.good c.requires.held fit b
