@@ -2,7 +2,7 @@
 //! further item that RESTRICT needs, or that it is refused by the catalogue as it is. A table of n columns comes with 10 + 8n rights of its
 //! owner, held and with grant option: five on the table, and four on each column. What stands there was counted by hand.
 
-pub const SCRIPTS: [&str; 8] = [
+pub const SCRIPTS: [&str; 9] = [
     CYCLE,
     SECOND_GRANTOR,
     SECOND_ROOT,
@@ -11,6 +11,7 @@ pub const SCRIPTS: [&str; 8] = [
     OBJECTS,
     ROLES,
     DOMAINS,
+    NO_COLUMNS,
 ];
 
 /// A cycle of grants that loses its root goes with it.
@@ -156,4 +157,13 @@ REVOKE USAGE ON DOMAIN D FROM BOB RESTRICT => needs TABLE BOB.T
 REVOKE USAGE ON DOMAIN D FROM BOB CASCADE => +0 -21
 DROP DOMAIN D RESTRICT => needs COLUMN ALICE.T.X
 DROP DOMAIN D CASCADE => +2 -5
+";
+
+/// A table without columns isn't made, and its check isn't, either: the board finds that by the whole catalogue.
+const NO_COLUMNS: &str = "CREATE SCHEMA ALICE => +1 -0
+CREATE TABLE T (X INTEGER) => +20 -0
+GRANT SELECT ON T TO BOB WITH GRANT OPTION => +4 -0
+CREATE TABLE U (CHECK (1 = 1)) => +0 -0
+CREATE TABLE U (CHECK (EXISTS (SELECT X FROM T))) => +0 -0
+CREATE TABLE U (X INTEGER) => +20 -0
 ";
