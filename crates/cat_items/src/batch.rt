@@ -9,7 +9,7 @@ ghost use Rattle.cat_items.specs.declared.item.Item.{Item};
 use crate::catalogue::{compare_items, cut};
 use crate::item::Item;
 
-/// Exchanges two neighbouring parts: from `from` to `middle`, and on to `to`.
+/// Exchanges two neighbouring parts: from `from` to `middle`, and on to `to`. Where one is empty, nothing is moved.
 fn exchange<T>(items: &mut [T], from: usize, middle: usize, to: usize)
     requires first { from ≤ middle }
     requires second { middle ≤ to }
@@ -17,7 +17,9 @@ fn exchange<T>(items: &mut [T], from: usize, middle: usize, to: usize)
     ensures len { length items.new ≡ length items.old }
     ensures parts { (before first second after : List T) → AreParts items.old from middle to before first second after → items.new ≡ before ++ (second ++ (first ++ after)) }
 {
-    items[from..to].rotate_left(middle - from);
+    if from < middle && middle < to {
+        items[from..to].rotate_left(middle - from);
+    }
 }
 
 /// The cut of an item that often comes behind the last.
