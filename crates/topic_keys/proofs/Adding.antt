@@ -119,12 +119,11 @@ module _ (P Q : Topic → Type 0) where
 pub adds_none : (P : Topic → Type 0) (old new : List Item) → old ≡ new → ((t : Topic) → ¬ (P t)) → Adds P old new
 adds_none P old new same none = gets_none (IsKeyWhere P) old new same (λ k of. none of.0 of.1)
 
-pub adds_one : (t : Topic) (old new : List Item) → ((k : Item) → Contains new k ↔ (Contains old k ⊎ (k ≡ topic_key t))) → Adds (λ s. s ≡ t) old new
-adds_one t old new put = gets_alike (λ k. k ≡ topic_key t) (IsKeyWhere (λ s. s ≡ t)) old new (λ k. ((λ e. (t, refl, e)), (λ of. subst (λ s. k ≡ topic_key s) of.1 of.2))) put
-
--- one, by its key
-pub adds_key : (t : Topic) (made : Item) (old new : List Item) → made ≡ topic_key t → ((k : Item) → Contains new k ↔ (Contains old k ⊎ (k ≡ made))) → Adds (λ s. s ≡ t) old new
-adds_key t made old new e put = adds_one t old new (subst (λ (y : Item). (k : Item) → Contains new k ↔ (Contains old k ⊎ (k ≡ y))) e put)
+-- one is put behind, by its key
+pub adds_behind : (t : Topic) (made : Item) (old new : List Item) → made ≡ topic_key t → new ≡ old ++ made ∷ [] → Adds (λ s. s ≡ t) old new
+adds_behind t made old new e put =
+    gets_alike (λ k. k ≡ made) (IsKeyWhere (λ s. s ≡ t)) old new (λ k. ((λ at. (t, refl, at ∙ e)), (λ of. of.2 ∙ ap topic_key of.1 ∙ sym e)))
+    (subst (Gets (λ k. k ≡ made) old) (sym put) (gets_one made old))
 
 -- each topic's key is a right or a role grant
 pub topic_granted : (t : Topic) → IsRightOrRoleGrant (topic_key t)

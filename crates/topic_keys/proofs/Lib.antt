@@ -1,3 +1,4 @@
 pub mod Adding
 pub mod HomeLaws
 pub mod NameLaws
+pub mod OrderLaws

@@ -1,7 +1,9 @@
 -- Lists that get what is so, and lists of the keys of topics.
 use Rattle.std.specs.Prelude.{◌≡◌, ◌↔◌, ◌⊎◌, List}
 use Rattle.std.specs.List.{Contains}
+use Rattle.std.specs.declared.cmp.Ordering.TheVariants.{Equal}
 use Rattle.cat_items.specs.declared.item.Item.{Item}
+use Rattle.cat_items.specs.Order.{item_cmp}
 use Rattle.cascade_laws.specs.Topics.{Topic}
 use Rattle.board_graph.specs.BoardKeys.{topic_key}
 
@@ -16,3 +18,7 @@ IsKeyWhere P k = (t : Topic) × P t × (k ≡ topic_key t)
 -- a list of keys got those of all topics that are so
 abbrev pub Adds : (Topic → Type 0) → List Item → List Item → Type 0
 Adds P old new = Gets (IsKeyWhere P) old new
+
+-- of these items two with one key are the same
+abbrev pub AreKnownByKey : List Item → Type 0
+AreKnownByKey items = (x y : Item) → Contains items x → Contains items y → item_cmp x y ≡ Equal → x ≡ y

@@ -10,8 +10,8 @@ ghost use Rattle.board_graph.specs.BoardKeys as boards;
 ghost use Rattle.topic_keys.specs.Keys as spec;
 ghost use Rattle.topic_keys.specs.Lists.{Adds};
 
-use cat_items::{Auth, Catalogue, Item, Need, NeedKey, PathKey, Right, RoleGrant, Shared};
-use edit_rules::{path_of, put};
+use cat_items::{Auth, Item, Need, NeedKey, PathKey, Right, RoleGrant, Shared};
+use edit_rules::path_of;
 use role_graph::Actor;
 use sql_tree::{Action, Name, Object, Path};
 use std::alloc::{AllocError, Global};
@@ -161,9 +161,10 @@ pub fn key_of(alloc: Global, topic: TopicKey<'_>) -> Result<Item, AllocError>
     }
 }
 
-/// Puts the key of a topic into a list of keys in order, where it isn't there. `Err` is want of memory.
-pub fn put_topic(alloc: Global, keys: &mut Catalogue, topic: TopicKey<'_>) -> Result<(), AllocError>
+/// Puts the key of a topic behind a list of keys, whether it is there or not. `Err` is want of memory.
+pub fn put_topic(alloc: Global, keys: &mut Vec<Item>, topic: TopicKey<'_>) -> Result<(), AllocError>
     ensures { OnOk result (Adds (λ t. t ≡ spec.topic_of topic.entry) keys.old.items keys.new.items) }
 {
-    put(keys, key_of(alloc, topic)?)
+    keys.push(key_of(alloc, topic)?)?;
+    Ok(())
 }

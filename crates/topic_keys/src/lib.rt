@@ -4,8 +4,10 @@
 mod keys;
 mod names;
 mod objects;
+mod order;
 mod under;
 
 pub use keys::{TopicKey, key_of, put_topic};
 pub use names::{put_far_names, put_names, put_need};
+pub use order::in_order;
 pub use under::homes;

@@ -9,15 +9,13 @@ ghost use Rattle.topic_keys.specs.Lists.{Adds};
 
 use crate::keys::{TopicKey, put_topic};
 use crate::objects::{put_column, put_domain, put_table};
-use cat_items::{
-    Auth, Catalogue, Column, DomainCheck, Foreign, Item, Need, PathKey, Right, RoleGrant,
-};
+use cat_items::{Auth, Column, DomainCheck, Foreign, Item, Need, PathKey, Right, RoleGrant};
 use sql_tree::{Action, Items, Name, Object, Path};
 use std::alloc::{AllocError, Global};
 
 fn put_columns(
     alloc: Global,
-    keys: &mut Catalogue,
+    keys: &mut Vec<Item>,
     table: &Object,
     names: &Items<Name>,
 ) -> Result<(), AllocError>
@@ -31,7 +29,7 @@ fn put_columns(
 
 fn put_optional_domain(
     alloc: Global,
-    keys: &mut Catalogue,
+    keys: &mut Vec<Item>,
     domain: &Option<Object>,
 ) -> Result<(), AllocError>
     ensures { OnOk result (Adds (topics.IsOptionalDomainTopic domain.now) keys.old.items keys.new.items) }
@@ -42,7 +40,7 @@ fn put_optional_domain(
     }
 }
 
-fn put_auth(alloc: Global, keys: &mut Catalogue, auth: &Auth) -> Result<(), AllocError>
+fn put_auth(alloc: Global, keys: &mut Vec<Item>, auth: &Auth) -> Result<(), AllocError>
     ensures { OnOk result (Adds (topics.IsAuthTopic auth.now) keys.old.items keys.new.items) }
 {
     match auth {
@@ -52,7 +50,7 @@ fn put_auth(alloc: Global, keys: &mut Catalogue, auth: &Auth) -> Result<(), Allo
 }
 
 /// Puts in the topic of the object of a need.
-fn put_object(alloc: Global, keys: &mut Catalogue, need: &Need) -> Result<(), AllocError>
+fn put_object(alloc: Global, keys: &mut Vec<Item>, need: &Need) -> Result<(), AllocError>
     ensures { OnOk result (Adds (topics.IsObjectTopic need.now.action need.now.on) keys.old.items keys.new.items) }
 {
     let on = PathKey::Path(&need.on);
@@ -65,7 +63,7 @@ fn put_object(alloc: Global, keys: &mut Catalogue, need: &Need) -> Result<(), Al
 }
 
 /// Puts in the topic of the column of a need.
-fn put_need_column(alloc: Global, keys: &mut Catalogue, need: &Need) -> Result<(), AllocError>
+fn put_need_column(alloc: Global, keys: &mut Vec<Item>, need: &Need) -> Result<(), AllocError>
     ensures { OnOk result (Adds (spec.IsNeedColumnTopic need.now) keys.old.items keys.new.items) }
 {
     match &need.column {
@@ -75,7 +73,7 @@ fn put_need_column(alloc: Global, keys: &mut Catalogue, need: &Need) -> Result<(
 }
 
 /// Puts in the topics of the object of a need and its column. `Err` is want of memory.
-pub fn put_need(alloc: Global, keys: &mut Catalogue, need: &Need) -> Result<(), AllocError>
+pub fn put_need(alloc: Global, keys: &mut Vec<Item>, need: &Need) -> Result<(), AllocError>
     ensures { OnOk result (Adds (topics.IsNeedTopic need.now) keys.old.items keys.new.items) }
 {
     put_object(alloc, keys, need)?;
@@ -85,7 +83,7 @@ pub fn put_need(alloc: Global, keys: &mut Catalogue, need: &Need) -> Result<(), 
 /// Puts in the topics of the two parties of a right, where it isn't by the system.
 fn put_parties(
     alloc: Global,
-    keys: &mut Catalogue,
+    keys: &mut Vec<Item>,
     grantor: &Auth,
     grantee: &Auth,
 ) -> Result<(), AllocError>
@@ -100,14 +98,14 @@ fn put_parties(
     }
 }
 
-fn put_right(alloc: Global, keys: &mut Catalogue, right: &Right) -> Result<(), AllocError>
+fn put_right(alloc: Global, keys: &mut Vec<Item>, right: &Right) -> Result<(), AllocError>
     ensures { OnOk result (Adds (topics.IsRightTopic right.now) keys.old.items keys.new.items) }
 {
     put_need(alloc, keys, &right.need)?;
     put_parties(alloc, keys, &right.grantor, &right.grantee)
 }
 
-fn put_role_grant(alloc: Global, keys: &mut Catalogue, grant: &RoleGrant) -> Result<(), AllocError>
+fn put_role_grant(alloc: Global, keys: &mut Vec<Item>, grant: &RoleGrant) -> Result<(), AllocError>
     ensures { OnOk result (Adds (topics.IsRoleGrantTopic grant.now) keys.old.items keys.new.items) }
 {
     put_topic(alloc, keys, TopicKey::RoleNamed(&grant.role))?;
@@ -115,14 +113,14 @@ fn put_role_grant(alloc: Global, keys: &mut Catalogue, grant: &RoleGrant) -> Res
     put_auth(alloc, keys, &grant.grantor)
 }
 
-fn put_table_names(alloc: Global, keys: &mut Catalogue, table: &Object) -> Result<(), AllocError>
+fn put_table_names(alloc: Global, keys: &mut Vec<Item>, table: &Object) -> Result<(), AllocError>
     ensures { OnOk result (Adds (λ t. (t ≡ topics.schema table.now.schema) ⊎ (t ≡ topics.columns table.now)) keys.old.items keys.new.items) }
 {
     put_topic(alloc, keys, TopicKey::Schema(&table.schema))?;
     put_topic(alloc, keys, TopicKey::Columns(table))
 }
 
-fn put_column_names(alloc: Global, keys: &mut Catalogue, column: &Column) -> Result<(), AllocError>
+fn put_column_names(alloc: Global, keys: &mut Vec<Item>, column: &Column) -> Result<(), AllocError>
     ensures { OnOk result (Adds (topics.IsNameTopic (item.Column column.now)) keys.old.items keys.new.items) }
 {
     put_table(alloc, keys, &column.table)?;
@@ -131,7 +129,7 @@ fn put_column_names(alloc: Global, keys: &mut Catalogue, column: &Column) -> Res
 
 fn put_domain_check(
     alloc: Global,
-    keys: &mut Catalogue,
+    keys: &mut Vec<Item>,
     check: &DomainCheck,
 ) -> Result<(), AllocError>
     ensures { OnOk result (Adds (topics.IsNameTopic (item.DomainCheck check.now)) keys.old.items keys.new.items) }
@@ -143,7 +141,7 @@ fn put_domain_check(
 /// Puts in the topics of a constraint's schema, its table and some columns of this.
 fn put_constraint(
     alloc: Global,
-    keys: &mut Catalogue,
+    keys: &mut Vec<Item>,
     name: &Object,
     table: &Object,
     columns: &Items<Name>,
@@ -156,7 +154,7 @@ fn put_constraint(
 }
 
 /// Puts in the topics of the target of a foreign key, its columns there and its key.
-fn put_target(alloc: Global, keys: &mut Catalogue, foreign: &Foreign) -> Result<(), AllocError>
+fn put_target(alloc: Global, keys: &mut Vec<Item>, foreign: &Foreign) -> Result<(), AllocError>
     ensures { OnOk result (Adds (spec.IsTargetTopic foreign.now) keys.old.items keys.new.items) }
 {
     put_topic(alloc, keys, TopicKey::BaseTable(&foreign.target))?;
@@ -164,7 +162,7 @@ fn put_target(alloc: Global, keys: &mut Catalogue, foreign: &Foreign) -> Result<
     put_topic(alloc, keys, TopicKey::Key(&foreign.key))
 }
 
-fn put_foreign(alloc: Global, keys: &mut Catalogue, foreign: &Foreign) -> Result<(), AllocError>
+fn put_foreign(alloc: Global, keys: &mut Vec<Item>, foreign: &Foreign) -> Result<(), AllocError>
     ensures { OnOk result (Adds (topics.IsNameTopic (item.Foreign foreign.now)) keys.old.items keys.new.items) }
 {
     put_constraint(alloc, keys, &foreign.name, &foreign.table, &foreign.columns)?;
@@ -173,7 +171,7 @@ fn put_foreign(alloc: Global, keys: &mut Catalogue, foreign: &Foreign) -> Result
 
 /// Puts in the topics that an item depends on by name, but for those that it depends on by way of its table or object. `Err` is want of
 /// memory.
-pub fn put_names(alloc: Global, keys: &mut Catalogue, x: &Item) -> Result<(), AllocError>
+pub fn put_names(alloc: Global, keys: &mut Vec<Item>, x: &Item) -> Result<(), AllocError>
     ensures { OnOk result (Adds (topics.IsNameTopic x.now) keys.old.items keys.new.items) }
 {
     match x {
@@ -211,7 +209,7 @@ pub fn put_names(alloc: Global, keys: &mut Catalogue, x: &Item) -> Result<(), Al
 }
 
 /// Puts in the topic of the schema that a path begins with.
-fn put_first(alloc: Global, keys: &mut Catalogue, path: &Path) -> Result<(), AllocError>
+fn put_first(alloc: Global, keys: &mut Vec<Item>, path: &Path) -> Result<(), AllocError>
     ensures { OnOk result (Adds (asks.IsFirstTopic path.now) keys.old.items keys.new.items) }
 {
     match path.get(0) {
@@ -220,7 +218,7 @@ fn put_first(alloc: Global, keys: &mut Catalogue, path: &Path) -> Result<(), All
     }
 }
 
-fn put_far_right(alloc: Global, keys: &mut Catalogue, right: &Right) -> Result<(), AllocError>
+fn put_far_right(alloc: Global, keys: &mut Vec<Item>, right: &Right) -> Result<(), AllocError>
     ensures { OnOk result (Adds (asks.IsFarRightTopic right.now) keys.old.items keys.new.items) }
 {
     put_first(alloc, keys, &right.need.on)?;
@@ -229,7 +227,7 @@ fn put_far_right(alloc: Global, keys: &mut Catalogue, right: &Right) -> Result<(
 }
 
 /// Puts in the topics of what an item names, and depends on by way of its table or object. `Err` is want of memory.
-pub fn put_far_names(alloc: Global, keys: &mut Catalogue, x: &Item) -> Result<(), AllocError>
+pub fn put_far_names(alloc: Global, keys: &mut Vec<Item>, x: &Item) -> Result<(), AllocError>
     ensures { OnOk result (Adds (asks.IsFarTopic x.now) keys.old.items keys.new.items) }
 {
     match x {

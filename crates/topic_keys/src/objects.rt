@@ -6,12 +6,12 @@ ghost use Rattle.cascade_laws.specs.Topics as topics;
 ghost use Rattle.topic_keys.specs.Lists.{Adds};
 
 use crate::keys::{TopicKey, put_topic};
-use cat_items::{Catalogue, ObjectKey, PathKey};
+use cat_items::{Item, ObjectKey, PathKey};
 use sql_tree::{Name, Object};
 use std::alloc::{AllocError, Global};
 
 /// Puts in the topic of a base table or a view. `Err` is want of memory.
-pub fn put_table(alloc: Global, keys: &mut Catalogue, table: &Object) -> Result<(), AllocError>
+pub fn put_table(alloc: Global, keys: &mut Vec<Item>, table: &Object) -> Result<(), AllocError>
     ensures { OnOk result (Adds (λ t. t ≡ topics.table (path_of table.now)) keys.old.items keys.new.items) }
 {
     let path = PathKey::Object(ObjectKey {
@@ -24,7 +24,7 @@ pub fn put_table(alloc: Global, keys: &mut Catalogue, table: &Object) -> Result<
 /// Puts in the topic of a column of a base table or a view. `Err` is want of memory.
 pub fn put_column(
     alloc: Global,
-    keys: &mut Catalogue,
+    keys: &mut Vec<Item>,
     table: &Object,
     name: &Name,
 ) -> Result<(), AllocError>
@@ -38,7 +38,7 @@ pub fn put_column(
 }
 
 /// Puts in the topic of a domain. `Err` is want of memory.
-pub fn put_domain(alloc: Global, keys: &mut Catalogue, domain: &Object) -> Result<(), AllocError>
+pub fn put_domain(alloc: Global, keys: &mut Vec<Item>, domain: &Object) -> Result<(), AllocError>
     ensures { OnOk result (Adds (λ t. t ≡ topics.domain (path_of domain.now)) keys.old.items keys.new.items) }
 {
     let path = PathKey::Object(ObjectKey {
@@ -49,7 +49,7 @@ pub fn put_domain(alloc: Global, keys: &mut Catalogue, domain: &Object) -> Resul
 }
 
 /// Puts in the topic of a routine. `Err` is want of memory.
-pub fn put_routine(alloc: Global, keys: &mut Catalogue, routine: &Object) -> Result<(), AllocError>
+pub fn put_routine(alloc: Global, keys: &mut Vec<Item>, routine: &Object) -> Result<(), AllocError>
     ensures { OnOk result (Adds (λ t. t ≡ topics.routine (path_of routine.now)) keys.old.items keys.new.items) }
 {
     let path = PathKey::Object(ObjectKey {

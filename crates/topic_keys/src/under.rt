@@ -9,32 +9,33 @@ ghost use Rattle.topic_keys.specs.Lists as lists;
 
 use crate::keys::{TopicKey, put_topic};
 use crate::objects::{put_column, put_domain, put_routine, put_table};
-use cat_items::{Catalogue, Column, Item, Right};
+use crate::order::in_order;
+use cat_items::{Column, Item, Right};
 use sql_tree::{Items, Name, Object};
 use std::alloc::{AllocError, Global};
 
-fn put_role(alloc: Global, keys: &mut Catalogue, name: &Name) -> Result<(), AllocError>
+fn put_role(alloc: Global, keys: &mut Vec<Item>, name: &Name) -> Result<(), AllocError>
     ensures { OnOk result (lists.Adds (λ t. (t ≡ topics.authorization name.now) ⊎ (t ≡ topics.role_named name.now)) keys.old.items keys.new.items) }
 {
     put_topic(alloc, keys, TopicKey::Authorization(name))?;
     put_topic(alloc, keys, TopicKey::RoleNamed(name))
 }
 
-fn put_base_table(alloc: Global, keys: &mut Catalogue, table: &Object) -> Result<(), AllocError>
+fn put_base_table(alloc: Global, keys: &mut Vec<Item>, table: &Object) -> Result<(), AllocError>
     ensures { OnOk result (lists.Adds (λ t. (t ≡ topics.table (path_of table.now)) ⊎ (t ≡ topics.base_table table.now)) keys.old.items keys.new.items) }
 {
     put_table(alloc, keys, table)?;
     put_topic(alloc, keys, TopicKey::BaseTable(table))
 }
 
-fn put_column_of(alloc: Global, keys: &mut Catalogue, column: &Column) -> Result<(), AllocError>
+fn put_column_of(alloc: Global, keys: &mut Vec<Item>, column: &Column) -> Result<(), AllocError>
     ensures { OnOk result (lists.Adds (λ t. (t ≡ topics.columns column.now.table) ⊎ (t ≡ topics.column (path_of column.now.table) column.now.name)) keys.old.items keys.new.items) }
 {
     put_topic(alloc, keys, TopicKey::Columns(&column.table))?;
     put_column(alloc, keys, &column.table, &column.name)
 }
 
-fn put_right(alloc: Global, keys: &mut Catalogue, right: &Right) -> Result<(), AllocError>
+fn put_right(alloc: Global, keys: &mut Vec<Item>, right: &Right) -> Result<(), AllocError>
     ensures { OnOk result (lists.Adds (λ t. t ≡ topics.supply right.now.need right.now.grantee) keys.old.items keys.new.items) }
 {
     let need = (&right.need).into();
@@ -42,7 +43,7 @@ fn put_right(alloc: Global, keys: &mut Catalogue, right: &Right) -> Result<(), A
     put_topic(alloc, keys, TopicKey::Supply(need, grantee))
 }
 
-fn put_homes(alloc: Global, keys: &mut Catalogue, x: &Item) -> Result<(), AllocError>
+fn put_homes(alloc: Global, keys: &mut Vec<Item>, x: &Item) -> Result<(), AllocError>
     ensures { OnOk result (lists.Adds (spec.IsHomeOf x.now) keys.old.items keys.new.items) }
 {
     match x {
@@ -70,7 +71,7 @@ fn put_homes(alloc: Global, keys: &mut Catalogue, x: &Item) -> Result<(), AllocE
 pub fn homes(alloc: Global, x: &Item) -> Result<Items<Item>, AllocError>
     ensures { IfOk result (λ keys. AreAll (lists.IsKeyWhere (spec.IsHome x.now)) keys) }
 {
-    let mut keys = Catalogue::of_sorted(Vec::new(alloc));
+    let mut keys = Vec::new(alloc);
     put_homes(alloc, &mut keys, x)?;
-    Ok(Items::from_vec(keys.into_items()))
+    Ok(Items::from_vec(in_order(keys)))
 }
