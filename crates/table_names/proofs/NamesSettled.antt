@@ -4,7 +4,6 @@ use Rattle.std.proofs.lemmas.Bool.{cases_lt}
 use Rattle.std.proofs.lemmas.List.{get_or_append_left, get_or_at}
 use Rattle.sql_names.specs.declared.object.Object.{Object}
 use Rattle.sql_tree.specs.declared.table.TableConstraint.{TableConstraint}
-use Rattle.sql_tree.specs.declared.table.TableConstraintKind.{TableConstraintKind}
 use Rattle.cat_items.specs.declared.edit.Refusal.TheVariants.{Repeated}
 use Rattle.cat_items.specs.declared.item.Item.{Item}
 use Rattle.edit_rules.proofs.FirstLaws.{IsSettled}

@@ -1,5 +1,5 @@
 -- Where all members differ none is repeated.
-use Rattle.std.proofs.Common.{◌≡◌, ◌≢◌, ℕ, ◌+◌, ◌<◌, List, [], ◌∷◌, ◌++◌, length, get_or, sym, ◌∙◌, ap, subst, refl, length-append, arith}
+use Rattle.std.proofs.Common.{◌≡◌, ℕ, List, ◌∷◌, ◌++◌, length, get_or, sym, ◌∙◌, subst, refl, length-append, arith}
 use Rattle.std.proofs.lemmas.List.{get_or_append_left, get_or_at}
 use Rattle.table_parts.specs.declared.marks.Mark.{Mark}
 use Rattle.table_parts.specs.Marks.{MarksDiffer, IsRepeated}

@@ -3,6 +3,7 @@
 
 mod given;
 mod named;
+mod numbers;
 mod refusals;
 
 pub use given::test_target;

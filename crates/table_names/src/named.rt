@@ -5,7 +5,9 @@ ghost use Rattle.std.specs.List.{Any};
 ghost use Rattle.table_parts.specs.Parts.{constraints_of};
 ghost use Rattle.table_names.specs.Given as given;
 ghost use Rattle.table_names.specs.Named as spec;
+ghost use Rattle.table_names.specs.Taken.{AreOfConstraints, AreTaken};
 
+use crate::numbers::{is_taken, mark_number, taken_in};
 use cat_items::Catalogue;
 use edit_rules::is_constraint;
 use sql_tree::{Items, Name, Object, TableConstraintKind};
@@ -75,20 +77,25 @@ fn is_free(
 ) -> bool
     ensures { IsTrue result ↔ spec.IsFreeBeside (spec.IsFree c.now.items name.now.schema given.now) named.now name.now.name }
 {
-    !is_constraint(c, name) && !is_among(given, &name.name) && !has_constraint(named, &name.name)
+    !has_constraint(named, &name.name) && !is_among(given, &name.name) && !is_constraint(c, name)
 }
 
-/// The first free name of the system.
+/// The first free name of the system. A marked number isn't looked at again.
 fn free_name(
     alloc: Global,
     c: &Catalogue,
     schema: &Name,
     given: &Items<Name>,
     named: &Items<NamedConstraint>,
+    taken: &[bool],
 ) -> Result<Name, AllocError>
+    requires { AreTaken (spec.IsFreeBeside (spec.IsFree c.now.items schema.now given.now) named.now) taken.now }
     ensures { IfOk result (spec.IsSystemName (spec.IsFreeBeside (spec.IsFree c.now.items schema.now given.now) named.now)) }
 {
     for number in 1..u64::MAX {
+        if is_taken(taken, number) {
+            continue;
+        }
         let name = Object {
             schema: schema.copy()?,
             name: system_name(alloc, number)?,
@@ -108,34 +115,64 @@ fn name_for(
     schema: &Name,
     given: &Items<Name>,
     named: &Items<NamedConstraint>,
+    taken: &[bool],
     name: &Option<Name>,
 ) -> Result<Name, AllocError>
+    requires { AreTaken (spec.IsFreeBeside (spec.IsFree c.now.items schema.now given.now) named.now) taken.now }
     ensures { IfOk result (spec.IsNameFor (spec.IsFree c.now.items schema.now given.now) named.now name.now) }
 {
     match name {
         Some(name) => name.copy(),
-        None => free_name(alloc, c, schema, given, named),
+        None => free_name(alloc, c, schema, given, named, taken),
     }
 }
 
-/// Puts a constraint with its name behind those that have theirs.
+/// Puts a constraint with its name behind those that have theirs, and marks the number of this.
 fn push_named(
     alloc: Global,
     c: &Catalogue,
     schema: &Name,
     given: &Items<Name>,
     named: &mut Items<NamedConstraint>,
+    taken: &mut Vec<bool>,
     part: &Part,
 ) -> Result<(), AllocError>
-    ensures { OnOk result (spec.AddsNamed (spec.IsFree c.now.items schema.now given.now) part.now named.old named.new) }
+    requires { AreTaken (spec.IsFreeBeside (spec.IsFree c.now.items schema.now given.now) named.old) taken.old.items }
+    ensures taken { OnOk result (AreTaken (spec.IsFreeBeside (spec.IsFree c.now.items schema.now given.now) named.new) taken.new.items) }
+    ensures named { OnOk result (spec.AddsNamed (spec.IsFree c.now.items schema.now given.now) part.now named.old named.new) }
 {
     match part {
         Part::Column(_) => Ok(()),
         Part::Constraint(constraint) => {
-            let name = name_for(alloc, c, schema, given, named, &constraint.name)?;
+            let name = name_for(alloc, c, schema, given, named, taken, &constraint.name)?;
+            mark_number(taken, &name);
             let kind = constraint.kind.copy(alloc)?;
             named.push(NamedConstraint { name, kind })
         }
+    }
+}
+
+/// Whether a part is a constraint to which no name is given.
+fn is_unnamed(part: &Part) -> bool {
+    match part {
+        Part::Column(_) => false,
+        Part::Constraint(constraint) => constraint.name.is_none(),
+    }
+}
+
+/// Numbers of the system's names that are taken in a schema, with a place for each part: none where each constraint is given a name.
+fn taken_for(
+    alloc: Global,
+    c: &Catalogue,
+    schema: &Name,
+    parts: &[Part],
+) -> Result<Vec<bool>, AllocError>
+    ensures { IfOk result (λ taken. AreOfConstraints c.now.items schema.now taken.items) }
+{
+    if parts.iter().any(is_unnamed) {
+        taken_in(alloc, c, schema, parts.len())
+    } else {
+        Ok(Vec::new(alloc))
     }
 }
 
@@ -149,9 +186,10 @@ pub fn name_constraints(
     ensures { IfOk result (spec.AreNamed (spec.IsFree c.now.items schema.now (given.given_names parts.now)) [] (constraints_of parts.now)) }
 {
     let given = given_names(alloc, parts)?;
+    let mut taken = taken_for(alloc, c, schema, parts.as_slice())?;
     let mut named = Items::new(alloc);
     for part in parts.as_slice() {
-        push_named(alloc, c, schema, &given, &mut named, part)?;
+        push_named(alloc, c, schema, &given, &mut named, &mut taken, part)?;
     }
     Ok(named)
 }
