@@ -2,6 +2,7 @@
 
 ghost use Rattle.std.specs.Prelude.{◌≡◌, ◌↔◌, ◌⊎◌, Contains, false, IfOk, OnOk};
 ghost use Rattle.std.specs.Option.{option_copied};
+ghost use Rattle.cat_items.specs.declared.item.Item.{Item};
 ghost use Rattle.cat_items.specs.declared.need.Need.{Need};
 ghost use Rattle.cascade_laws.specs.Topics.{IsOwnNeed};
 ghost use Rattle.edit_rules.specs.Chosen.{AreAll};
@@ -18,21 +19,29 @@ use crate::sought::{looks, put_sought};
 use cat_items::{Catalogue, Item, Need};
 use sql_tree::Items;
 use std::alloc::{AllocError, Global};
-use topic_keys::{put_far_names, put_names};
+use topic_keys::{in_order, put_far_names, put_names};
+
+/// The keys of the topics that an item depends on, in any order.
+fn own_keys(alloc: Global, c: &Catalogue, x: &Item) -> Result<Vec<Item>, AllocError>
+    ensures { IfOk result (λ keys. (k : Item) → Contains keys.items k ↔ IsKeyWhere (IsTopicOf c.now.items x.now) k) }
+{
+    let mut needs = Vec::new(alloc);
+    push_own(c, x, &mut needs)?;
+    let needs = needs.as_slice();
+    let all = reached_if(alloc, c, x, looks(needs, x))?;
+    let mut keys = Vec::new(alloc);
+    put_names(alloc, &mut keys, x)?;
+    put_sought(alloc, &mut keys, x, needs, all.as_slice())?;
+    Ok(keys)
+}
 
 /// The keys of the topics that an item depends on, in order, where the catalogue has the schemas, views, columns and role
 /// authorizations. `Err` is want of memory.
 pub fn topics(alloc: Global, c: &Catalogue, x: &Item) -> Result<Items<Item>, AllocError>
     ensures { IfOk result (λ keys. AreAll (IsKeyWhere (IsTopicOf c.now.items x.now)) keys) }
 {
-    let mut needs = Vec::new(alloc);
-    push_own(c, x, &mut needs)?;
-    let needs = needs.as_slice();
-    let all = reached_if(alloc, c, x, looks(needs, x))?;
-    let mut keys = Catalogue::of_sorted(Vec::new(alloc));
-    put_names(alloc, &mut keys, x)?;
-    put_sought(alloc, &mut keys, x, needs, all.as_slice())?;
-    Ok(Items::from_vec(keys.into_items()))
+    let keys = own_keys(alloc, c, x)?;
+    Ok(Items::from_vec(in_order(keys)))
 }
 
 fn push_far_unless(
@@ -69,7 +78,7 @@ pub fn put_asked(
     c: &Catalogue,
     x: &Item,
     before: Option<&Item>,
-    keys: &mut Catalogue,
+    keys: &mut Vec<Item>,
 ) -> Result<(), AllocError>
     requires { HasAskedBefore c.now.items (option_copied before) keys.old.items }
     ensures { OnOk result (Adds (IsAskedFor c.now.items x.now) keys.old.items keys.new.items) }

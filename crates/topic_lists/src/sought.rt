@@ -5,7 +5,7 @@ ghost use Rattle.cascade_laws.specs.Concerns.{IsRoleGrant};
 ghost use Rattle.topic_keys.specs.Lists.{Adds};
 ghost use Rattle.topic_lists.specs.Sought as spec;
 
-use cat_items::{Auth, Catalogue, Item, Need};
+use cat_items::{Auth, Item, Need};
 use sql_tree::Name;
 use std::alloc::{AllocError, Global};
 use topic_keys::{TopicKey, put_need, put_topic};
@@ -13,7 +13,7 @@ use topic_keys::{TopicKey, put_need, put_topic};
 /// Puts in the rights of a need to each of these.
 fn put_supplies(
     alloc: Global,
-    keys: &mut Catalogue,
+    keys: &mut Vec<Item>,
     need: &Need,
     reached: &[Auth],
 ) -> Result<(), AllocError>
@@ -27,7 +27,7 @@ fn put_supplies(
 
 fn put_supply(
     alloc: Global,
-    keys: &mut Catalogue,
+    keys: &mut Vec<Item>,
     need: &Need,
     grantee: &Auth,
 ) -> Result<(), AllocError>
@@ -40,7 +40,7 @@ fn put_supply(
 
 fn put_need_and_supplies(
     alloc: Global,
-    keys: &mut Catalogue,
+    keys: &mut Vec<Item>,
     need: &Need,
     reached: &[Auth],
 ) -> Result<(), AllocError>
@@ -52,7 +52,7 @@ fn put_need_and_supplies(
 
 fn put_needs(
     alloc: Global,
-    keys: &mut Catalogue,
+    keys: &mut Vec<Item>,
     needs: &[Need],
     reached: &[Auth],
 ) -> Result<(), AllocError>
@@ -64,7 +64,7 @@ fn put_needs(
     Ok(())
 }
 
-fn put_edges_to(alloc: Global, keys: &mut Catalogue, grantee: &Auth) -> Result<(), AllocError>
+fn put_edges_to(alloc: Global, keys: &mut Vec<Item>, grantee: &Auth) -> Result<(), AllocError>
     ensures { OnOk result (Adds (spec.IsEdgesTopic grantee.now) keys.old.items keys.new.items) }
 {
     match grantee {
@@ -75,7 +75,7 @@ fn put_edges_to(alloc: Global, keys: &mut Catalogue, grantee: &Auth) -> Result<(
 }
 
 /// Puts in the role authorizations to each of these.
-fn put_edges(alloc: Global, keys: &mut Catalogue, reached: &[Auth]) -> Result<(), AllocError>
+fn put_edges(alloc: Global, keys: &mut Vec<Item>, reached: &[Auth]) -> Result<(), AllocError>
     ensures { OnOk result (Adds (spec.IsOfAny spec.IsEdgesTopic reached.now) keys.old.items keys.new.items) }
 {
     for grantee in reached {
@@ -86,7 +86,7 @@ fn put_edges(alloc: Global, keys: &mut Catalogue, reached: &[Auth]) -> Result<()
 
 fn put_admins_to(
     alloc: Global,
-    keys: &mut Catalogue,
+    keys: &mut Vec<Item>,
     role: &Name,
     grantee: &Auth,
 ) -> Result<(), AllocError>
@@ -102,7 +102,7 @@ fn put_admins_to(
 /// Puts in the admin options of a role to each of these.
 fn put_admins(
     alloc: Global,
-    keys: &mut Catalogue,
+    keys: &mut Vec<Item>,
     role: &Name,
     reached: &[Auth],
 ) -> Result<(), AllocError>
@@ -116,7 +116,7 @@ fn put_admins(
 
 fn put_admin_options(
     alloc: Global,
-    keys: &mut Catalogue,
+    keys: &mut Vec<Item>,
     x: &Item,
     reached: &[Auth],
 ) -> Result<(), AllocError>
@@ -148,7 +148,7 @@ pub fn looks(needs: &[Need], x: &Item) -> bool
 
 fn put_edges_if(
     alloc: Global,
-    keys: &mut Catalogue,
+    keys: &mut Vec<Item>,
     looks: bool,
     reached: &[Auth],
 ) -> Result<(), AllocError>
@@ -164,7 +164,7 @@ fn put_edges_if(
 /// Puts in the topics that an item depends on which has these needs, and whose actor reaches these. `Err` is want of memory.
 pub fn put_sought(
     alloc: Global,
-    keys: &mut Catalogue,
+    keys: &mut Vec<Item>,
     x: &Item,
     needs: &[Need],
     reached: &[Auth],

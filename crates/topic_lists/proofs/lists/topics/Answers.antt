@@ -1,31 +1,9 @@
-use Rattle.std.proofs.Common.{◌↔◌, ◌⊎◌, ◌∙◌, List, subst, sym}
-use Rattle.std.specs.List.{Contains}
-use Rattle.cat_items.specs.declared.need.Need.{Need}
-use Rattle.cat_items.specs.declared.item.Item.{Item}
-use Rattle.cat_items.specs.Catalogues.{IsInOrder}
-use Rattle.cascade_laws.specs.Topics.{IsNameTopic, IsOwnNeed}
-use Rattle.topic_keys.specs.Lists.{IsKeyWhere}
-use Rattle.topic_keys.proofs.Adding.{adds_all, adds_both}
-use Rattle.topic_lists.specs.Sought.{IsSoughtTopic, IsTopicOf}
-use Rattle.topic_lists.proofs.ActorLaws.{reached_where}
-use Rattle.topic_lists.proofs.Runs.{gets_from_none}
-use Rattle.topic_lists.proofs.TopicLaws.{depends_are}
+use Rattle.topic_keys.proofs.OrderLaws.{keys_in_order, keys_known}
+use Rattle.topic_lists.specs.Sought.{IsTopicOf}
 use Rattle.topic_lists.proofs.lists.topics.Goals as goal
 
+pub in_order-requires : goal.in_order-requires
+in_order-requires c = keys_known (IsTopicOf c.args.c.now.items c.args.x.now) c.in_ok-keys.keys.items (λ k. (c.in_ok-keys.ensures k).0)
+
 pub returns : goal.returns
-returns c =
-    let l = c.args.c.now.items in
-    let x = c.args.x.now in
-    let needs = c.as_slice-needs.result.now in
-    let all = c.as_slice.result.now in
-    let none = c.new-needs.result.items in
-    let empty = c.of_sorted-keys.result.items in
-    let are : (need : Need) → Contains needs need ↔ IsOwnNeed l x need = subst (λ (list : List Need). (need : Need) → Contains list need ↔ IsOwnNeed l x need) (sym c.as_slice-needs.ensures.value)
-    (gets_from_none (IsOwnNeed l x) (IsOwnNeed l x) none c.push_own.new.needs.items c.new-needs.ensures.items (λ need. (λ h. h, λ h. h)) c.in_ok-push_own.ensures) in
-    let reach = reached_where l x needs c.in_ok-all.all.items all c.looks.result c.looks.ensures c.as_slice.ensures.value c.in_ok-all.ensures in
-    record {
-      order = subst IsInOrder (sym c.from_vec.ensures) c.into_items.ensures.order;
-      members = subst (λ (found : List Item). (k : Item) → Contains found k ↔ IsKeyWhere (IsTopicOf l x) k) (sym (c.from_vec.ensures ∙ c.into_items.ensures.items))
-          (adds_all (λ t. IsNameTopic x t ⊎ IsSoughtTopic needs all x t) (IsTopicOf l x) empty c.put_sought.new.keys.items (c.of_sorted-keys.ensures.items ∙ c.new.ensures.items) (depends_are l x needs all reach are)
-          (adds_both (IsNameTopic x) (IsSoughtTopic needs all x) empty c.put_names.new.keys.items c.put_sought.new.keys.items c.in_ok-put_names.ensures c.in_ok-put_sought.ensures));
-    }
+returns c = keys_in_order (IsTopicOf c.args.c.now.items c.args.x.now) c.in_ok-keys.keys.items c.in_order.result.items c.from_vec.result c.in_ok-keys.ensures c.in_order.ensures c.from_vec.ensures
