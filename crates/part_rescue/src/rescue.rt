@@ -38,7 +38,7 @@ fn clear(alloc: Global, part: &Catalogue, suspects: &Catalogue) -> Result<Marks,
 }
 
 /// Marks what stands of a part that has these suspects: first what is no suspect, and then what the marked items support, until they support nothing
-/// more. `Err` is want of memory: the marks take it, and a list of the part's grant options.
+/// more. `Err` is want of memory: the marks take it, and lists of the part's options and of what is to be followed.
 pub fn rescued(
     alloc: Global,
     part: &Catalogue,

@@ -1,8 +1,8 @@
--- Rights that a user or a role granted: what searches tell of what they rest on.
+-- What users and roles granted: what searches tell of what it rests on.
 use Rattle.std.proofs.Common.{◌≡◌, ◌≢◌, ◌⊎◌, ◌↔◌, ◌+◌, ◌<◌, ℕ, Bool, true, false, List, [], ◌∷◌, ◌++◌, length, get_or, refl, sym, ap, ◌∙◌, subst, inl, inr, arith}
 use Rattle.std.specs.List.{All, Contains}
 use Rattle.std.specs.List.Sorted.{IsPermutation}
-use Rattle.std.specs.declared.cmp.Ordering.TheVariants.{Less, Equal, Greater}
+use Rattle.std.specs.declared.cmp.Ordering.TheVariants.{Less, Equal}
 use Rattle.std.proofs.lemmas.Bool.{cases_lt}
 use Rattle.std.proofs.lemmas.List.{get_or_default}
 use Rattle.std.proofs.lemmas.List.Elements.{All-contains, All-push, Contains-append_left, Contains-push}
@@ -11,55 +11,53 @@ use Rattle.finite_chains.specs.Chains.{IsWithin}
 use Rattle.sql_tree.specs.declared.rights.Action.TheVariants as action
 use Rattle.cat_items.specs.declared.need.Auth.{Auth}
 use Rattle.cat_items.specs.declared.need.Auth.TheVariants.{System, Public, Named}
-use Rattle.cat_items.specs.declared.need.Need.{Need}
 use Rattle.cat_items.specs.declared.item.Right.{Right}
+use Rattle.cat_items.specs.declared.item.RoleGrant.{RoleGrant}
 use Rattle.cat_items.specs.declared.item.Item.{Item}
 use Rattle.cat_items.specs.declared.item.Item.TheVariants as item
 use Rattle.cat_items.specs.Catalogues.{HasKeyAt, IsInOrder}
-use Rattle.cat_items.specs.Order.{item_cmp, need_cmp}
+use Rattle.cat_items.specs.Order.{item_cmp}
 use Rattle.cat_items.specs.Ranges.{IsGrantOf, IsRoleAuthorization}
 use Rattle.cat_items.specs.Reach.{GrantsRole, Has, Leads, Reaches}
-use Rattle.cat_items.specs.Rights.{IsAuthorization, IsRightFor, Stands}
-use Rattle.cat_items.specs.Supported.{IsHeld, MayGrant, RightRests, Supported}
+use Rattle.cat_items.specs.Rights.{IsAdminFor, IsAuthorization, IsRightFor, Stands}
+use Rattle.cat_items.specs.Supported.{MayGrant, MayGrantRole, RightRests, RoleGrantRests, Supported}
 use Rattle.cat_items.proofs.KeyLemmas.{same_key}
 use Rattle.role_graph.specs.Marked.{marked}
 use Rattle.role_graph.proofs.MarkedLemmas.{Contains-marked, place_of_marked}
 use Rattle.role_graph.proofs.MeetingLemmas.{met_otherwise}
 use Rattle.part_rounds.specs.declared.grantees.GrantOption.{GrantOption}
-use Rattle.part_rounds.specs.Grantees.{AreOptions, AreOptionsBelow, HasOptionTo, IsOptionAt, IsOptionTo, IsWay, right_item}
-use Rattle.part_rounds.specs.Granted.{IsHeldFor, IsStanding}
-use Rattle.part_rounds.proofs.GranteeOrder.{auth_cmp-is, both_equal, need_cmp-is}
+use Rattle.part_rounds.specs.declared.grantees.Title.{Title}
+use Rattle.part_rounds.specs.declared.grantees.Title.TheVariants as title
+use Rattle.part_rounds.specs.declared.grants.Grant.{Grant}
+use Rattle.part_rounds.specs.declared.grants.Grant.TheVariants as grant
+use Rattle.part_rounds.specs.Grantees.{AreOptions, AreOptionsBelow, HasOptionTo, IsOption, IsOptionAt, IsTitled, titled, unsigned}
+use Rattle.part_rounds.specs.Grants.{IsMade, IsMadeFor, IsNoAdmin, IsOptionFor, IsOptionTo, IsStanding, IsWay, grant_item, grantor_of}
+use Rattle.part_rounds.proofs.TitleLaws.{grant_from_key}
 
--- ---- the list of grant options
+-- ---- the list of options
 
 pub no_options : (items : List Item) → AreOptionsBelow items [] 0
-no_options items = record { there = λ k d low. absurd (omega (arith, low)); all = λ k r low here. absurd (omega (arith, low)) }
+no_options items = record { there = λ k d low. absurd (omega (arith, low)); all = λ k y low here so. absurd (omega (arith, low)) }
 
 -- one option more
-pub options_more : (items : List Item) (options : List GrantOption) (at : ℕ) (o : GrantOption) (x : Item) → o.at ≡ at → at < length items → x ≡ get_or items at x → x ≡ item.Grantable o.right.now → AreOptionsBelow items options at → AreOptionsBelow items (options ++ o ∷ []) (at + 1)
-options_more items options at o x at_is low x_at x_is before =
-    let is : (d : Item) → get_or items at d ≡ item.Grantable o.right.now = λ d. sym (x_at ∙ get_or_default items at x d low) ∙ x_is in
-    record {
-      there = All-push (IsOptionAt items) options o before.there (omega (arith, at_is, low), subst (λ k. get_or items k (item.Grantable o.right.now) ≡ item.Grantable o.right.now) (sym at_is) (is (item.Grantable o.right.now)));
-      all = λ k r below here. elim (cases_lt k at) [
-        | inl earlier ↦ let h = before.all k r earlier here in (h.0, Contains-append_left options (o ∷ []) h.0 h.1, h.2, h.3)
-        | inr now ↦
-            let e : k ≡ at = omega (arith, now, below) in
-            let same : item.Grantable o.right.now ≡ item.Grantable r = sym (is (item.Grantable r)) ∙ subst (λ n. get_or items n (item.Grantable r) ≡ item.Grantable r) e here in
-            let right : o.right.now ≡ r = cc in
-            (o, Contains-push options o, at_is ∙ sym e, right)
-      ];
-    }
+pub options_more : (items : List Item) (options : List GrantOption) (at : ℕ) (o : GrantOption) (x : Item) → o.at ≡ at → at < length items → x ≡ get_or items at x → IsTitled o.title x → AreOptionsBelow items options at → AreOptionsBelow items (options ++ o ∷ []) (at + 1)
+options_more items options at o x at_is low x_at x_is before = record {
+  there = All-push (IsOptionAt items) options o before.there (omega (arith, at_is, low), λ d. subst (λ k. IsTitled o.title (get_or items k d)) (sym at_is) (subst (IsTitled o.title) (x_at ∙ get_or_default items at x d low) x_is));
+  all = λ k y below here so. elim (cases_lt k at) [
+    | inl earlier ↦ let h = before.all k y earlier here so in (h.0, Contains-append_left options (o ∷ []) h.0 h.1, h.2)
+    | inr now ↦ let e : k ≡ at = omega (arith, now, below) in (o, Contains-push options o, at_is ∙ sym e)
+  ];
+}
 
 -- no option at the place
-pub options_same : (items : List Item) (options : List GrantOption) (at : ℕ) (x : Item) → at < length items → x ≡ get_or items at x → ((r : Right) → x ≡ item.Grantable r → ⊥) → AreOptionsBelow items options at → AreOptionsBelow items options (at + 1)
+pub options_same : (items : List Item) (options : List GrantOption) (at : ℕ) (x : Item) → at < length items → x ≡ get_or items at x → (IsOption x → ⊥) → AreOptionsBelow items options at → AreOptionsBelow items options (at + 1)
 options_same items options at x low is none before = record {
   there = before.there;
-  all = λ k r below here. elim (cases_lt k at) [
-    | inl earlier ↦ before.all k r earlier here
+  all = λ k y below here so. elim (cases_lt k at) [
+    | inl earlier ↦ before.all k y earlier here so
     | inr now ↦
         let e : k ≡ at = omega (arith, now, below) in
-        absurd (none r (is ∙ get_or_default items at x (item.Grantable r) low ∙ subst (λ n. get_or items n (item.Grantable r) ≡ item.Grantable r) e here))
+        absurd (none (subst IsOption (sym (is ∙ get_or_default items at x y low ∙ subst (λ n. get_or items n y ≡ y) e here)) so))
   ];
 }
 
@@ -67,29 +65,46 @@ options_same items options at x low is none before = record {
 pub options_moved : (items : List Item) (options moved : List GrantOption) → IsPermutation options moved → AreOptions items options → AreOptions items moved
 options_moved items options moved moves are = record {
   there = All-permutation (IsOptionAt items) options moved moves are.there;
-  all = λ k r low here. let h = are.all k r low here in (h.0, Contains-permutation options moved h.0 moves h.1, h.2, h.3);
+  all = λ k y low here so. let h = are.all k y low here so in (h.0, Contains-permutation options moved h.0 moves h.1, h.2);
 }
 
 -- each has a mark where there are as many marks as items
 pub options_within : (items : List Item) (options : List GrantOption) (marks : List Bool) → length marks ≡ length items → AreOptions items options → All (λ (o : GrantOption). o.at < length marks) options
 options_within items options marks size are k d low = omega (arith, size, (are.there k d low).0)
 
+-- ---- titles
+
+-- who granted an option doesn't matter
+pub to_unsigned : (g : Grant) (to : Auth) (y : Item) → IsOptionTo g to y ↔ IsOptionTo g to (unsigned y)
+to_unsigned (grant.Role g) to (item.RoleAdmin q) = (λ h. h, λ h. h)
+to_unsigned (grant.Right r) to (item.Grantable q) = (λ h. h, λ h. h)
+to_unsigned g to y = (λ h. absurd h, λ h. absurd h)
+
+pub titled_itself : (t : Title) → unsigned (titled t) ≡ titled t
+titled_itself (title.Role role to) = refl
+titled_itself (title.Right need to) = refl
+
+to_option : (g : Grant) (to : Auth) (y : Item) → IsOptionTo g to y → IsOption y
+to_option (grant.Role g) to (item.RoleAdmin q) h = tt
+to_option (grant.Right r) to (item.Grantable q) h = tt
+to_option g to y h = absurd h
+
 -- a listed option is marked where the item is
-pub option_there : (items : List Item) (options : List GrantOption) (marks : List Bool) (need : Need) (to : Auth) → AreOptions items options → HasOptionTo options marks need to ↔ Has (marked items marks) (IsOptionTo need to)
-option_there items options marks need to are = (
+pub option_there : (items : List Item) (options : List GrantOption) (marks : List Bool) (g : Grant) (to : Auth) → AreOptions items options → HasOptionTo options marks g to ↔ Has (marked items marks) (IsOptionTo g to)
+option_there items options marks g to are = (
   λ h.
       let o = h.0 in
       let there : IsOptionAt items o = All-contains (IsOptionAt items) options o are.there h.1 in
-      (item.Grantable o.right.now, subst (λ y. Contains (marked items marks) y) there.1 (Contains-marked items marks o.at (item.Grantable o.right.now) there.0 h.4), (h.2, h.3)),
-  λ h. back h.0 h.1 h.2,
+      let y : Item = get_or items o.at (titled o.title) in
+      (y, Contains-marked items marks o.at (titled o.title) there.0 h.3, (to_unsigned g to y).1 (subst (IsOptionTo g to) (sym (there.1 (titled o.title))) h.2)),
+  λ h.
+      let y = h.0 in
+      let p = place_of_marked items marks y h.1 in
+      let o = are.all p.0 y p.1.low p.1.is (to_option g to y h.2) in
+      let there : IsOptionAt items o.0 = All-contains (IsOptionAt items) options o.0 are.there o.1 in
+      let same : unsigned y ≡ titled o.0.title = subst (λ z. unsigned z ≡ titled o.0.title) (subst (λ k. get_or items k y ≡ y) (sym o.2) p.1.is) (there.1 y) in
+      (o.0, o.1, subst (IsOptionTo g to) same ((to_unsigned g to y).0 h.2), subst (λ k. get_or marks k false ≡ true) (sym o.2) p.1.mark),
 )
-  where
-    back : (y : Item) → Contains (marked items marks) y → IsOptionTo need to y → HasOptionTo options marks need to
-    back (item.Grantable r) is so =
-        let p = place_of_marked items marks (item.Grantable r) is in
-        let o = are.all p.0 r p.1.low p.1.is in
-        (o.0, o.1, ap (λ (q : Right). q.need) o.3 ∙ so.0, ap (λ (q : Right). q.grantee) o.3 ∙ so.1, subst (λ k. get_or marks k false ≡ true) (sym o.2) p.1.mark)
-    back y is so = absurd so
 
 -- ---- whom a user or role reaches who has such an option
 
@@ -102,92 +117,87 @@ last_role s from role [] to way = (way.0.0, way.0.1, subst (λ n. IsGrantOf n wa
     of_role y h = absurd h
 last_role s from role (next ∷ roles) to way = last_role s role next roles to way.1
 
-module _ (items s : List Item) (need : Need) (by : List ℕ) where
+module _ (items s : List Item) (g : Grant) (by : List ℕ) where
   -- such an option, of whom is reached
-  reached : (to : Auth) → Reaches s (Named by) to → Has s (IsOptionTo need to) → Has s (IsRightFor true s (Named by) need)
-  reached to reach h = (h.0, h.1, right_for h.0 h.2)
-    where
-      right_for : (y : Item) → IsOptionTo need to y → IsRightFor true s (Named by) need y
-      right_for (item.Grantable r) is = (is.0, subst (Reaches s (Named by)) (sym is.1) reach)
-      right_for y is = absurd is
+  for_reached : (to : Auth) → Reaches s (Named by) to → (g : Grant) (y : Item) → IsOptionTo g to y → IsOptionFor s g by y
+  for_reached to reach (grant.Role g) (item.RoleAdmin q) is = (ap (λ (role : List ℕ). role ∷ []) (sym is.0), subst (Reaches s (Named by)) (sym is.1) reach)
+  for_reached to reach (grant.Right r) (item.Grantable q) is = (is.0, subst (Reaches s (Named by)) (sym is.1) reach)
+  for_reached to reach g y is = absurd is
+
+  reached : (to : Auth) → Reaches s (Named by) to → Has s (IsOptionTo g to) → Has s (IsOptionFor s g by)
+  reached to reach h = (h.0, h.1, for_reached to reach g h.0 h.2)
 
   abbrev pub Ways : Type 0
-  Ways = Has s (IsOptionTo need (Named by)) ⊎ (Has s (IsOptionTo need Public) ⊎ Has items (IsWay s need by))
+  Ways = Has s (IsOptionTo g (Named by)) ⊎ (Has s (IsOptionTo g Public) ⊎ Has items (IsWay s g by))
 
-  pub from_own : Has s (IsOptionTo need (Named by)) → Has s (IsRightFor true s (Named by) need)
+  pub from_own : Has s (IsOptionTo g (Named by)) → Has s (IsOptionFor s g by)
   from_own h = reached (Named by) ([], refl) h
 
-  pub from_public : Has s (IsOptionTo need Public) → Has s (IsRightFor true s (Named by) need)
+  pub from_public : Has s (IsOptionTo g Public) → Has s (IsOptionFor s g by)
   from_public h = reached Public tt h
 
-  pub from_way : Has items (IsWay s need by) → Has s (IsRightFor true s (Named by) need)
+  pub from_way : Has items (IsWay s g by) → Has s (IsOptionFor s g by)
   from_way h = of_item h.0 h.2
     where
-      of_item : (y : Item) → IsWay s need by y → Has s (IsRightFor true s (Named by) need)
-      of_item (item.RoleAuth g) way = reached (Named g.role) way.1 way.0
+      of_item : (y : Item) → IsWay s g by y → Has s (IsOptionFor s g by)
+      of_item (item.RoleAuth q) way = reached (Named q.role) way.1 way.0
       of_item y way = absurd way
 
+  -- whom it was granted to
+  grantee_of : (g : Grant) (y : Item) → IsOptionFor s g by y → (to : Auth) × IsOptionTo g to y × Reaches s (Named by) to
+  grantee_of (grant.Role g) (item.RoleAdmin q) is = (Named q.grantee, (sym (let e : g.now.role ∷ [] ≡ q.role ∷ [] = is.0 in cc), refl), is.1)
+  grantee_of (grant.Right r) (item.Grantable q) is = (q.grantee, (is.0, refl), is.1)
+  grantee_of g y is = absurd is
+
   -- there are no more ways
-  pub ways : IsWithin s items → Has s (IsRightFor true s (Named by) need) → Ways
-  ways within h = of_item h.0 h.1 h.2
+  pub ways : IsWithin s items → Has s (IsOptionFor s g by) → Ways
+  ways within h = let to = grantee_of g h.0 h.2 in to_grantee to.0 (h.0, h.1, to.1) to.2
     where
-      way_at : (to : List ℕ) → Has s (IsOptionTo need (Named to)) → Reaches s (Named by) (Named to) → (y : Item) → IsGrantOf to y → IsWay s need by y
-      way_at to option reach (item.RoleAuth g) is = (subst (λ n. Has s (IsOptionTo need (Named n))) (sym is) option, subst (λ n. Reaches s (Named by) (Named n)) (sym is) reach)
+      way_at : (to : List ℕ) → Has s (IsOptionTo g (Named to)) → Reaches s (Named by) (Named to) → (y : Item) → IsGrantOf to y → IsWay s g by y
+      way_at to option reach (item.RoleAuth q) is = (subst (λ n. Has s (IsOptionTo g (Named n))) (sym is) option, subst (λ n. Reaches s (Named by) (Named n)) (sym is) reach)
       way_at to option reach y is = absurd is
 
-      by_roles : (to : List ℕ) → Has s (IsOptionTo need (Named to)) → (roles : List (List ℕ)) → Leads s by roles to → Ways
-      by_roles to option [] e = inl (subst (λ n. Has s (IsOptionTo need (Named n))) (sym e) option)
+      by_roles : (to : List ℕ) → Has s (IsOptionTo g (Named to)) → (roles : List (List ℕ)) → Leads s by roles to → Ways
+      by_roles to option [] e = inl (subst (λ n. Has s (IsOptionTo g (Named n))) (sym e) option)
       by_roles to option (role ∷ roles) way =
           let last = last_role s by role roles to way in
           inr (inr (last.0, within last.0 last.1, way_at to option (role ∷ roles, way) last.0 last.2))
 
-      to_grantee : (r : Right) → Contains s (item.Grantable r) → r.need ≡ need → (to : Auth) → r.grantee ≡ to → Reaches s (Named by) to → Ways
-      to_grantee r is need_is System to_is reach = absurd reach
-      to_grantee r is need_is Public to_is reach = inr (inl (item.Grantable r, is, (need_is, to_is)))
-      to_grantee r is need_is (Named to) to_is reach = by_roles to (item.Grantable r, is, (need_is, to_is)) reach.0 reach.1
+      to_grantee : (to : Auth) → Has s (IsOptionTo g to) → Reaches s (Named by) to → Ways
+      to_grantee System option reach = absurd reach
+      to_grantee Public option reach = inr (inl option)
+      to_grantee (Named to) option reach = by_roles to option reach.0 reach.1
 
-      of_item : (y : Item) → Contains s y → IsRightFor true s (Named by) need y → Ways
-      of_item (item.Grantable r) is so = to_grantee r is so.0 r.grantee refl so.1
-      of_item y is so = absurd so
-
-pub way_lies : (s : List Item) (need : Need) (by : List ℕ) (y : Item) → IsWay s need by y → IsRoleAuthorization y
-way_lies s need by (item.RoleAuth g) way = tt
-way_lies s need by y way = absurd way
+pub way_lies : (s : List Item) (g : Grant) (by : List ℕ) (y : Item) → IsWay s g by y → IsRoleAuthorization y
+way_lies s g by (item.RoleAuth q) way = tt
+way_lies s g by y way = absurd way
 
 -- what is marked is in the list
 pub marked_within : (items : List Item) (marks : List Bool) → IsWithin (marked items marks) items
 marked_within items marks y h = let p = place_of_marked items marks y h in (p.0, p.1.low, p.1.is)
 
--- ---- the held right
+-- ---- the item of the grant itself
 
-held_from_key : (y : Item) (r : Right) → item_cmp y (item.Held r) ≡ Equal → y ≡ item.Held r
-held_from_key (item.Held q) r e =
-    let both = both_equal (need_cmp q.need r.need) _ e in
-    let rest = both_equal _ _ both.1 in
-    let needs : q.need ≡ r.need = need_cmp-is q.need r.need both.0 in
-    let grantors : q.grantor ≡ r.grantor = auth_cmp-is q.grantor r.grantor rest.0 in
-    let grantees : q.grantee ≡ r.grantee = auth_cmp-is q.grantee r.grantee rest.1 in
-    λ i. item.Held (record { need = needs i; grantor = grantors i; grantee = grantees i })
-held_from_key (item.Grantable q) r e = absurd (let odd : Greater ≡ Equal = e in cc)
-held_from_key y r e = absurd (let odd : Less ≡ Equal = e in cc)
+made_is : (g : Grant) (y : Item) → IsMade g y ↔ (y ≡ grant_item false g)
+made_is (grant.Role g) (item.RoleAuth q) = (λ h. ap item.RoleAuth h, λ e. cc)
+made_is (grant.Role g) y = (λ h. absurd h, λ e. absurd (cc))
+made_is (grant.Right r) (item.Held q) = (λ h. ap item.Held h, λ e. cc)
+made_is (grant.Right r) y = (λ h. absurd h, λ e. absurd (cc))
 
-held_is : (y : Item) (r : Right) → IsHeld r y → y ≡ item.Held r
-held_is (item.Held q) r h = ap item.Held h
-held_is y r h = absurd h
-
--- a marked item that has the key of the held right
-pub held_there : (items : List Item) (marks : List Bool) (at : ℕ) (r : Right) → at < length items → ((d : Item) → item_cmp (get_or items at d) (item.Held r) ≡ Equal) → get_or marks at false ≡ true → Has (marked items marks) (IsHeld r)
-held_there items marks at r low equal on =
-    let is : get_or items at (item.Held r) ≡ item.Held r = held_from_key (get_or items at (item.Held r)) r (equal (item.Held r)) in
-    (item.Held r, subst (λ y. Contains (marked items marks) y) is (Contains-marked items marks at (item.Held r) low on), refl)
+-- a marked item that has the key of the grant
+pub made_there : (items : List Item) (marks : List Bool) (at : ℕ) (g : Grant) → at < length items → ((d : Item) → item_cmp (get_or items at d) (grant_item false g) ≡ Equal) → get_or marks at false ≡ true → Has (marked items marks) (IsMade g)
+made_there items marks at g low equal on =
+    let x : Item = grant_item false g in
+    let is : get_or items at x ≡ x = grant_from_key (get_or items at x) g (equal x) in
+    (x, subst (λ y. Contains (marked items marks) y) is (Contains-marked items marks at x low on), (made_is g x).1 refl)
 
 -- no other place has it
-pub held_mark : (items : List Item) (marks : List Bool) (at : ℕ) (r : Right) → IsInOrder items → at < length items → ((d : Item) → item_cmp (get_or items at d) (item.Held r) ≡ Equal) → Has (marked items marks) (IsHeld r) → get_or marks at false ≡ true
-held_mark items marks at r order low equal h =
-    let y_is : h.0 ≡ item.Held r = held_is h.0 r h.2 in
-    let p = place_of_marked items marks (item.Held r) (subst (λ y. Contains (marked items marks) y) y_is h.1) in
-    let d : Item = item.Held r in
-    let here : get_or items at d ≡ item.Held r = held_from_key (get_or items at d) r (equal d) in
+pub made_mark : (items : List Item) (marks : List Bool) (at : ℕ) (g : Grant) → IsInOrder items → at < length items → ((d : Item) → item_cmp (get_or items at d) (grant_item false g) ≡ Equal) → Has (marked items marks) (IsMade g) → get_or marks at false ≡ true
+made_mark items marks at g order low equal h =
+    let d : Item = grant_item false g in
+    let y_is : h.0 ≡ d = (made_is g h.0).0 h.2 in
+    let p = place_of_marked items marks d (subst (λ y. Contains (marked items marks) y) y_is h.1) in
+    let here : get_or items at d ≡ d = grant_from_key (get_or items at d) g (equal d) in
     let itself : item_cmp d d ≡ Equal = same_key d in
     elim (cases_lt p.0 at) [
       | inl before ↦ absurd (let less : item_cmp (get_or items p.0 d) (get_or items at d) ≡ Less = order p.0 at d before low in let less' : item_cmp d d ≡ Less = rw (p.1.is, here) at less in let odd : Less ≡ Equal = sym less' ∙ itself in cc)
@@ -198,16 +208,20 @@ held_mark items marks at r order low equal h =
     ]
 
 -- no place has it
-pub held_nowhere : (items : List Item) (marks : List Bool) (r : Right) → ((k : ℕ) → HasKeyAt items k (item.Held r) → ⊥) → Has (marked items marks) (IsHeld r) → ⊥
-held_nowhere items marks r none h =
-    let y_is : h.0 ≡ item.Held r = held_is h.0 r h.2 in
-    let p = place_of_marked items marks (item.Held r) (subst (λ y. Contains (marked items marks) y) y_is h.1) in
-    none p.0 (p.1.low, λ d. subst (λ y. item_cmp y (item.Held r) ≡ Equal) (sym p.1.is ∙ get_or_default items p.0 (item.Held r) d p.1.low) (same_key (item.Held r)))
+pub made_nowhere : (items : List Item) (marks : List Bool) (g : Grant) → ((k : ℕ) → HasKeyAt items k (grant_item false g) → ⊥) → Has (marked items marks) (IsMade g) → ⊥
+made_nowhere items marks g none h =
+    let x : Item = grant_item false g in
+    let y_is : h.0 ≡ x = (made_is g h.0).0 h.2 in
+    let p = place_of_marked items marks x (subst (λ y. Contains (marked items marks) y) y_is h.1) in
+    none p.0 (p.1.low, λ d. subst (λ y. item_cmp y x ≡ Equal) (sym p.1.is ∙ get_or_default items p.0 x d p.1.low) (same_key x))
 
--- ---- what such a right rests on
+-- ---- what a grant rests on
 
-abbrev pub Rests : Bool → List Item → Right → List ℕ → Type 0
-Rests grantable s r by = (r.need.action ≢ action.Admin) × IsHeldFor grantable s r × Has s (IsRightFor true s (Named by) r.need) × IsStanding s r by
+abbrev pub Rests : Bool → List Item → Grant → List ℕ → Type 0
+Rests option s g by = IsNoAdmin g × IsMadeFor option s g × Has s (IsOptionFor s g by) × IsStanding s g by
+
+role_parts : (s : List Item) (g : RoleGrant) (by : List ℕ) (grantor : Auth) → grantor ≡ Named by → MayGrantRole s g.role grantor ↔ (Has s (IsAuthorization by) × Has s (IsAdminFor s (Named by) (g.role ∷ [])))
+role_parts s g by grantor is = subst (λ a. MayGrantRole s g.role a ↔ (Has s (IsAuthorization by) × Has s (IsAdminFor s (Named by) (g.role ∷ [])))) (sym is) (λ h. h, λ h. h)
 
 grant_parts : (grantable : Bool) (s : List Item) (r : Right) (by : List ℕ) (grantor : Auth) → grantor ≡ Named by → r.need.action ≢ action.Admin → MayGrant grantable s r grantor ↔ (Has s (IsAuthorization by) × Stands s r.need × Has s (IsRightFor true s (Named by) r.need))
 grant_parts grantable s r by grantor is no_admin = subst (λ a. MayGrant grantable s r a ↔ (Has s (IsAuthorization by) × Stands s r.need × Has s (IsRightFor true s (Named by) r.need))) (sym is) (
@@ -215,16 +229,29 @@ grant_parts grantable s r by grantor is no_admin = subst (λ a. MayGrant grantab
   λ h. (h.0, (met_otherwise true s (Named by) r.need r.need.action no_admin).1 (h.1, h.2)),
 )
 
-right_parts : (grantable : Bool) (s : List Item) (r : Right) (by : List ℕ) → r.grantor ≡ Named by → RightRests grantable s r ↔ ((r.need.action ≢ action.Admin) × Has s (IsRightFor true s (Named by) r.need) × IsStanding s r by)
-right_parts grantable s r by is = (
-  λ h. let grant = (grant_parts grantable s r by r.grantor is h.0).0 h.3 in (h.0, grant.2, (grant.0, h.2, h.1)),
-  λ h. (h.0, h.2.2, h.2.1, (grant_parts grantable s r by r.grantor is h.0).1 (h.2.0, h.2.2, h.1)),
+-- what both a grant and its option rest on
+abbrev GrantRests : Bool → List Item → Grant → Type 0
+GrantRests option s (grant.Role g) = RoleGrantRests s g.now
+GrantRests option s (grant.Right r) = RightRests option s r.now
+
+rests_parts : (option : Bool) (s : List Item) (g : Grant) (by : List ℕ) → grantor_of g ≡ Named by → GrantRests option s g ↔ (IsNoAdmin g × Has s (IsOptionFor s g by) × IsStanding s g by)
+rests_parts option s (grant.Role g) by is = (
+  λ h. let may = (role_parts s g.now by g.now.grantor is).0 h.2 in (tt, may.1, (may.0, (h.0, h.1))),
+  λ h. (h.2.1.0, h.2.1.1, (role_parts s g.now by g.now.grantor is).1 (h.2.0, h.1)),
+)
+rests_parts option s (grant.Right r) by is = (
+  λ h. let grant = (grant_parts option s r.now by r.now.grantor is h.0).0 h.3 in (h.0, grant.2, (grant.0, (h.2, h.1))),
+  λ h. (h.0, h.2.1.1, h.2.1.0, (grant_parts option s r.now by r.now.grantor is h.0).1 (h.2.0, h.2.1.1, h.1)),
 )
 
-pub granted_parts : (c s : List Item) (grantable : Bool) (r : Right) (by : List ℕ) → r.grantor ≡ Named by → Rests grantable s r by ↔ Supported c s (right_item grantable r)
-granted_parts c s false r by is =
-    let parts = right_parts false s r by is in
-    (λ h. parts.1 (h.0, h.2, h.3), λ h. let p = parts.0 h in (p.0, tt, p.1, p.2))
-granted_parts c s true r by is =
-    let parts = right_parts true s r by is in
-    (λ h. (parts.1 (h.0, h.2, h.3), h.1), λ h. let p = parts.0 h.0 in (p.0, h.1, p.1, p.2))
+made_parts : (c s : List Item) (option : Bool) (g : Grant) → (GrantRests option s g × IsMadeFor option s g) ↔ Supported c s (grant_item option g)
+made_parts c s false (grant.Role g) = (λ h. h.0, λ h. (h, tt))
+made_parts c s false (grant.Right r) = (λ h. h.0, λ h. (h, tt))
+made_parts c s true (grant.Role g) = (λ h. h, λ h. h)
+made_parts c s true (grant.Right r) = (λ h. h, λ h. h)
+
+pub granted_parts : (c s : List Item) (option : Bool) (g : Grant) (by : List ℕ) → grantor_of g ≡ Named by → Rests option s g by ↔ Supported c s (grant_item option g)
+granted_parts c s option g by is =
+    let parts = rests_parts option s g by is in
+    let made = made_parts c s option g in
+    (λ h. made.0 (parts.1 (h.0, h.2, h.3), h.1), λ h. let m = made.1 h in let p = parts.0 m.0 in (p.0, m.1, p.1, p.2))

@@ -1,14 +1,16 @@
 //! Rights that follow one from another: a grant option from its right, and what it lets grant from a grant option.
 
-ghost use Rattle.std.specs.Prelude.{◌≡◌, ◌<◌, ◌≤◌, Option, not, length, count_by, IfSome};
+ghost use Rattle.std.specs.Prelude.{◌≡◌, ◌≤◌, ◌<◌, ◌+◌, not, length, count_by};
+ghost use Rattle.std.specs.Vec.{vec_capacity};
 ghost use Rattle.cat_items.specs.Supported.{Supported};
 ghost use Rattle.role_graph.specs.Marked.{marked};
 ghost use Rattle.role_graph.specs.Roles.{IsRoomFor};
-ghost use Rattle.finite_chains.specs.Chains.{IsWithin};
 ghost use Rattle.part_rounds.specs.Grantees.{AreListed};
-ghost use Rattle.part_rounds.specs.Grown.{Grows};
+ghost use Rattle.part_rounds.specs.Grown.{HaveGrown, IsWorklist};
+ghost use Rattle.part_rounds.specs.Options.{Knows};
 
 use crate::grantees::GrantOption;
+use crate::options::Found;
 use crate::trying::try_mark;
 use cat_items::{Auth, Catalogue, Item, Marks};
 use role_graph::Walk;
@@ -46,72 +48,72 @@ fn compare_following(x: &Item, before: &Item) -> Ordering {
     }
 }
 
-/// The first place without a mark at which an item stands that follows from this one: a search, as what follows from one item stands
-/// together.
-fn next_place(c: &Catalogue, marks: &Marks, x: &Item) -> Option<usize>
-    requires { length marks.now ≡ length c.now.items }
-    ensures { IfSome result (λ next. next < length c.now.items) }
-{
-    let items = c.items();
-    let first = items.partition_point(|y| compare_following(y, x).is_lt());
-    for at in first..items.len() {
-        if compare_following(&items[at], x).is_ne() {
-            return None;
-        }
-        if !marks.marked(at) {
-            return Some(at);
-        }
-    }
-    None
-}
-
-/// Marks the first item that follows from the one at a place, where the marked ones support it: its place.
-fn mark_next(
-    c: &Catalogue,
+/// Tries what follows from the item at a place, and puts on the list what gets marked: what is known then. What follows from one item stands
+/// together, so it is found by a search.
+fn mark_following<'a>(
+    c: &'a Catalogue,
     marks: &mut Marks,
     walk: &mut Walk,
     options: &[GrantOption<'_>],
     at: usize,
-) -> Option<usize>
+    known: Option<Found<'a>>,
+    list: &mut Vec<usize>,
+) -> Option<Found<'a>>
     requires within { at < length c.now.items }
     requires room { IsRoomFor walk.old c.now.items }
     requires marks { length marks.old ≡ length c.now.items }
     requires options { AreListed c.now.items options.now }
-    ensures next { IfSome result (λ next. next < length c.now.items) }
-    ensures marks { length marks.new ≡ length c.now.items }
-    ensures grown { Grows (Supported c.now.items) c.now.items marks.old marks.new }
-    ensures kept { count_by not marks.new ≤ count_by not marks.old }
-    ensures less { IfSome result (λ next. count_by not marks.new < count_by not marks.old) }
+    requires known { Knows c.now.items (marked c.now.items marks.old) known }
+    requires list { IsWorklist c.now.items marks.old list.old.items (vec_capacity list.old) }
+    ensures grown { HaveGrown (Supported c.now.items) c.now.items marks.old marks.new }
+    ensures known { Knows c.now.items (marked c.now.items marks.new) result }
+    ensures list { IsWorklist c.now.items marks.new list.new.items (vec_capacity list.new) }
+    ensures left { length list.new.items + count_by not marks.new ≤ length list.old.items + count_by not marks.old }
     ensures room { walk.new ≡ walk.old }
 {
-    let Some(next) = next_place(c, marks, &c.items()[at]) else {
-        return None;
-    };
-    let told = try_mark(c, marks, walk, options, next, None);
-    if told.holds { Some(next) } else { None }
+    let items = c.items();
+    let before = &items[at];
+    let first = items.partition_point(|x| compare_following(x, before).is_lt());
+    let mut found = known;
+    for next in first..items.len() {
+        if compare_following(&items[next], before).is_ne() {
+            return found;
+        }
+        let told = try_mark(c, marks, walk, options, next, found);
+        found = told.found;
+        if told.holds {
+            list.push_reserved(next);
+        }
+    }
+    found
 }
 
-/// Marks what follows from the item at a place, one item from the other, as long as the marked ones support it. What was marked
-/// stays so.
-pub fn mark_behind(
-    c: &Catalogue,
+/// Marks what follows from the item at a place, and what follows from that, as long as the marked ones support it: what is known then.
+pub fn mark_behind<'a>(
+    c: &'a Catalogue,
     marks: &mut Marks,
     walk: &mut Walk,
     options: &[GrantOption<'_>],
     from: usize,
-)
+    known: Option<Found<'a>>,
+    list: &mut Vec<usize>,
+) -> Option<Found<'a>>
     requires within { from < length c.now.items }
     requires room { IsRoomFor walk.old c.now.items }
     requires marks { length marks.old ≡ length c.now.items }
     requires options { AreListed c.now.items options.now }
-    ensures marks { length marks.new ≡ length c.now.items }
-    ensures grown { Grows (Supported c.now.items) c.now.items marks.old marks.new }
-    ensures kept { count_by not marks.new ≤ count_by not marks.old }
-    ensures within { IsWithin (marked c.now.items marks.old) (marked c.now.items marks.new) }
+    requires known { Knows c.now.items (marked c.now.items marks.old) known }
+    requires list { IsWorklist c.now.items marks.old list.old.items (vec_capacity list.old) }
+    requires free { length list.old.items + count_by not marks.old < vec_capacity list.old }
+    ensures grown { HaveGrown (Supported c.now.items) c.now.items marks.old marks.new }
+    ensures known { Knows c.now.items (marked c.now.items marks.new) result }
+    ensures list { IsWorklist c.now.items marks.new list.new.items (vec_capacity list.new) }
     ensures room { walk.new ≡ walk.old }
 {
-    let mut last = Some(from);
-    while let Some(at) = last {
-        last = mark_next(c, marks, walk, options, at);
+    list.push_reserved(from);
+    let mut found = known;
+    while let Some(at) = list.pop() {
+        found = mark_following(c, marks, walk, options, at, found, list);
     }
+    found
 }

@@ -1,135 +1,112 @@
-//! Rights that a user or a role granted: what they rest on is found by searches.
+//! Roles and rights that users and roles granted: what they rest on is found by searches.
 
-ghost use Rattle.std.specs.Prelude.{◌≡◌, ◌≢◌, ◌↔◌, ◌⊎◌, ◌<◌, All, IfSome, IsTrue, length, true};
-ghost use Rattle.sql_tree.specs.declared.rights.Action.TheVariants.{Admin};
+ghost use Rattle.std.specs.Prelude.{◌≡◌, ◌↔◌, ◌⊎◌, ◌<◌, All, IsTrue, false, length};
 ghost use Rattle.cat_items.specs.declared.item.Item.TheVariants as item;
 ghost use Rattle.cat_items.specs.declared.need.Auth.TheVariants.{Named, Public};
 ghost use Rattle.cat_items.specs.Order.{item_cmp};
 ghost use Rattle.cat_items.specs.Reach.{Has};
-ghost use Rattle.cat_items.specs.Rights.{IsRightFor};
-ghost use Rattle.cat_items.specs.Supported.{IsGrantee, IsHeld, Supported};
+ghost use Rattle.cat_items.specs.Supported.{IsGrantee, Supported};
 ghost use Rattle.role_graph.specs.Judges.{counting};
 ghost use Rattle.role_graph.specs.Marked.{marked};
 ghost use Rattle.role_graph.specs.Roles.{IsRoomFor};
-ghost use Rattle.part_rounds.specs.Grantees.{AreByGrantee, AreListed, HasOptionTo, IsWay, right_item};
-ghost use Rattle.part_rounds.specs.Granted as spec;
+ghost use Rattle.part_rounds.specs.Grantees.{AreByTitle, AreListed, HasOptionTo};
+ghost use Rattle.part_rounds.specs.Grants as spec;
 
 use crate::grantees::{GrantOption, is_marked_to};
-use cat_items::{Auth, Catalogue, Item, Marks, Need, Right, role_authorizations};
+use crate::grants::{Grant, Granted};
+use cat_items::{Auth, Catalogue, Item, Marks, Part, Right, RoleGrant, role_authorizations};
 use role_graph::{Actor, Judge, Walk};
 use sql_tree::{Action, Name};
 use std::cmp::Ordering;
 
-/// A right that the user or role of a name granted, or the grant option of it.
-#[derive(Clone, Copy)]
-pub struct Granted<'a> {
-    pub right: &'a Right,
-    pub by: &'a Name,
-    pub grantable: bool,
-}
-
-/// The same right, where a user or a role granted it.
-fn granted_by(right: &Right, grantable: bool) -> Option<Granted<'_>>
-    ensures some { IfSome result (λ g. spec.IsBy g × (g.right.now ≡ right.now) × (g.grantable ≡ grantable)) }
-{
-    match &right.grantor {
-        Auth::Named(by) => Some(Granted {
-            right,
-            by,
-            grantable,
-        }),
-        _ => None,
-    }
-}
-
-/// What an item is, if it is a right that a user or a role granted, or the grant option of one.
-pub fn granted_in(x: &Item) -> Option<Granted<'_>>
-    ensures { IfSome result (λ g. spec.IsBy g × (x.now ≡ right_item g.grantable g.right.now)) }
-{
-    match x {
-        Item::Held(right) => granted_by(right.get(), false),
-        Item::Grantable(right) => granted_by(right.get(), true),
-        _ => None,
-    }
-}
-
-/// Whether an item is a role authorization whose role has a marked grant option of this need, and is reached from a user or role.
+/// Whether an item is a role authorization whose role has a marked option that lets grant the same, and is reached from a user or role.
 fn is_way(
     c: &Catalogue,
     marks: &Marks,
     walk: &mut Walk,
     options: &[GrantOption<'_>],
-    need: &Need,
+    grant: Grant<'_>,
     by: &Name,
     x: &Item,
 ) -> bool
     requires room { IsRoomFor walk.old c.now.items }
     requires marks { length marks.now ≡ length c.now.items }
     requires options { AreListed c.now.items options.now }
-    ensures answer { IsTrue result ↔ IsWay (marked c.now.items marks.now) need.now by.now x.now }
+    ensures answer { IsTrue result ↔ spec.IsWay (marked c.now.items marks.now) grant.entry by.now x.now }
     ensures room { walk.new ≡ walk.old }
 {
     match x {
-        Item::RoleAuth(grant) => {
-            let role = Actor::Named(&grant.get().role);
-            is_marked_to(options, marks, need, role)
+        Item::RoleAuth(way) => {
+            let role = Actor::Named(&way.get().role);
+            is_marked_to(options, marks, grant, role)
                 && walk.reaches_by(c, Some(marks), Actor::Named(by), role)
         }
         _ => false,
     }
 }
 
-/// Whether a user or role reaches a role that has a marked grant option of this need.
+/// Whether a user or role reaches a role that has a marked option that lets grant the same.
 fn has_way(
     c: &Catalogue,
     marks: &Marks,
     walk: &mut Walk,
     options: &[GrantOption<'_>],
-    need: &Need,
+    grant: Grant<'_>,
     by: &Name,
 ) -> bool
     requires room { IsRoomFor walk.old c.now.items }
     requires marks { length marks.now ≡ length c.now.items }
     requires options { AreListed c.now.items options.now }
-    ensures answer { IsTrue result ↔ Has c.now.items (IsWay (marked c.now.items marks.now) need.now by.now) }
+    ensures answer { IsTrue result ↔ Has c.now.items (spec.IsWay (marked c.now.items marks.now) grant.entry by.now) }
     ensures room { walk.new ≡ walk.old }
 {
     let items = c.items();
     let all = role_authorizations(c);
     for at in all.start..all.end {
-        if is_way(c, marks, walk, options, need, by, &items[at]) {
+        if is_way(c, marks, walk, options, grant, by, &items[at]) {
             return true;
         }
     }
     false
 }
 
-/// Whether a user or role, or PUBLIC, has a marked grant option of this need.
-fn is_open(options: &[GrantOption<'_>], marks: &Marks, need: &Need, by: &Name) -> bool
-    requires order { AreByGrantee options.now }
+/// Whether a user or role, or PUBLIC, has a marked option that lets grant the same.
+fn is_open(options: &[GrantOption<'_>], marks: &Marks, grant: Grant<'_>, by: &Name) -> bool
+    requires order { AreByTitle options.now }
     requires within { All (λ o. o.at < length marks.now) options.now }
-    ensures { IsTrue result ↔ (HasOptionTo options.now marks.now need.now (Named by.now) ⊎ HasOptionTo options.now marks.now need.now Public) }
+    ensures { IsTrue result ↔ (HasOptionTo options.now marks.now grant.entry (Named by.now) ⊎ HasOptionTo options.now marks.now grant.entry Public) }
 {
-    is_marked_to(options, marks, need, Actor::Named(by))
-        || is_marked_to(options, marks, need, Actor::Public)
+    is_marked_to(options, marks, grant, Actor::Named(by))
+        || is_marked_to(options, marks, grant, Actor::Public)
 }
 
-/// Whether a user or role reaches one who has a marked grant option of this need.
+/// Whether a user or role reaches one who has a marked option that lets grant the same.
 fn may_grant(
     c: &Catalogue,
     marks: &Marks,
     walk: &mut Walk,
     options: &[GrantOption<'_>],
-    need: &Need,
+    grant: Grant<'_>,
     by: &Name,
 ) -> bool
     requires room { IsRoomFor walk.old c.now.items }
     requires marks { length marks.now ≡ length c.now.items }
     requires options { AreListed c.now.items options.now }
-    ensures answer { IsTrue result ↔ Has (marked c.now.items marks.now) (IsRightFor true (marked c.now.items marks.now) (Named by.now) need.now) }
+    ensures answer { IsTrue result ↔ Has (marked c.now.items marks.now) (spec.IsOptionFor (marked c.now.items marks.now) grant.entry by.now) }
     ensures room { walk.new ≡ walk.old }
 {
-    is_open(options, marks, need, by) || has_way(c, marks, walk, options, need, by)
+    is_open(options, marks, grant, by) || has_way(c, marks, walk, options, grant, by)
+}
+
+/// Compares an item with a role authorization.
+fn compare_role(x: &Item, grant: &RoleGrant) -> Ordering
+    ensures { result ≡ item_cmp x.now (item.RoleAuth grant.now) }
+{
+    match x {
+        Item::RoleAuth(other) => other.get().cmp(grant),
+        Item::RoleAdmin(_) | Item::Held(_) | Item::Grantable(_) => Ordering::Greater,
+        _ => Ordering::Less,
+    }
 }
 
 /// Compares an item with a right that is held.
@@ -143,41 +120,49 @@ fn compare_held(x: &Item, right: &Right) -> Ordering
     }
 }
 
-/// Whether the right of the same fields is held, and marked: a search.
-pub fn is_held(c: &Catalogue, marks: &Marks, right: &Right) -> bool
-    requires { length marks.now ≡ length c.now.items }
-    ensures { IsTrue result ↔ Has (marked c.now.items marks.now) (IsHeld right.now) }
+fn compare_made(x: &Item, grant: Grant<'_>) -> Ordering
+    ensures { result ≡ item_cmp x.now (spec.grant_item false grant.entry) }
 {
-    match c.items().binary_search_by(|x| compare_held(x, right)) {
+    match grant {
+        Grant::Role(grant) => compare_role(x, grant),
+        Grant::Right(right) => compare_held(x, right),
+    }
+}
+
+/// Whether the item of the grant itself is there, and marked: a search.
+pub fn is_made(c: &Catalogue, marks: &Marks, grant: Grant<'_>) -> bool
+    requires { length marks.now ≡ length c.now.items }
+    ensures { IsTrue result ↔ Has (marked c.now.items marks.now) (spec.IsMade grant.entry) }
+{
+    match c.items().binary_search_by(|x| compare_made(x, grant)) {
         Ok(at) => marks.marked(at),
         Err(_) => false,
     }
 }
 
-/// Whether a right isn't one to ADMIN.
-fn is_no_admin(action: Action) -> bool
-    ensures { IsTrue result ↔ (action ≢ Admin) }
+fn is_no_admin(grant: Grant<'_>) -> bool
+    ensures { IsTrue result ↔ spec.IsNoAdmin grant.entry }
 {
-    match action {
-        Action::Admin => false,
-        _ => true,
+    match grant {
+        Grant::Role(_) => true,
+        Grant::Right(right) => !matches!(right.need.action, Action::Admin),
     }
 }
 
-/// Whether a right is held, and marked, where it is its grant option that is asked for.
-fn is_held_for(c: &Catalogue, marks: &Marks, right: &Right, grantable: bool) -> bool
+/// Whether the grant itself is there, and marked, where it is its option that is asked for.
+fn is_made_for(c: &Catalogue, marks: &Marks, grant: Grant<'_>, option: bool) -> bool
     requires { length marks.now ≡ length c.now.items }
-    ensures { IsTrue result ↔ spec.IsHeldFor grantable (marked c.now.items marks.now) right.now }
+    ensures { IsTrue result ↔ spec.IsMadeFor option (marked c.now.items marks.now) grant.entry }
 {
-    !grantable || is_held(c, marks, right)
+    !option || is_made(c, marks, grant)
 }
 
-/// The same of a right that isn't one to ADMIN.
-fn is_ready(c: &Catalogue, marks: &Marks, right: &Right, grantable: bool) -> bool
+/// The same of a grant that isn't one of a right to ADMIN.
+fn is_ready(c: &Catalogue, marks: &Marks, grant: Grant<'_>, option: bool) -> bool
     requires { length marks.now ≡ length c.now.items }
-    ensures { IsTrue result ↔ ((right.now.need.action ≢ Admin) × spec.IsHeldFor grantable (marked c.now.items marks.now) right.now) }
+    ensures { IsTrue result ↔ (spec.IsNoAdmin grant.entry × spec.IsMadeFor option (marked c.now.items marks.now) grant.entry) }
 {
-    is_no_admin(right.need.action) && is_held_for(c, marks, right, grantable)
+    is_no_admin(grant) && is_made_for(c, marks, grant, option)
 }
 
 /// Whether a grantee is PUBLIC, or stands.
@@ -191,29 +176,41 @@ fn is_grantee(judge: &Judge<'_>, grantee: &Auth) -> bool
     }
 }
 
-/// Whether what a right names stands: its object, with its column, its grantee, and who granted it.
-fn stands(judge: &Judge<'_>, right: &Right, by: &Name) -> bool
-    ensures { IsTrue result ↔ spec.IsStanding (counting judge.now) right.now by.now }
+/// Whether what a grant names stands: the role and its grantee; or the grantee of the right, and its object with its column.
+fn names_stand(judge: &Judge<'_>, grant: Grant<'_>) -> bool
+    ensures { IsTrue result ↔ spec.NamesStand (counting judge.now) grant.entry }
 {
-    judge.authorization_stands(by)
-        && is_grantee(judge, &right.grantee)
-        && judge.stands((&right.need).into())
+    match grant {
+        Grant::Role(grant) => {
+            judge.any_in(Part::Role(&grant.role)) && judge.authorization_stands(&grant.grantee)
+        }
+        Grant::Right(right) => {
+            is_grantee(judge, &right.grantee) && judge.stands((&right.need).into())
+        }
+    }
+}
+
+/// Whether who made a grant stands, and what it names.
+fn stands(judge: &Judge<'_>, grant: Grant<'_>, by: &Name) -> bool
+    ensures { IsTrue result ↔ spec.IsStanding (counting judge.now) grant.entry by.now }
+{
+    judge.authorization_stands(by) && names_stand(judge, grant)
 }
 
 /// The same by the items at marked places.
-fn stands_by(c: &Catalogue, marks: &Marks, walk: &mut Walk, right: &Right, by: &Name) -> bool
+fn stands_by(c: &Catalogue, marks: &Marks, walk: &mut Walk, grant: Grant<'_>, by: &Name) -> bool
     requires room { IsRoomFor walk.old c.now.items }
     requires marks { length marks.now ≡ length c.now.items }
-    ensures answer { IsTrue result ↔ spec.IsStanding (marked c.now.items marks.now) right.now by.now }
+    ensures answer { IsTrue result ↔ spec.IsStanding (marked c.now.items marks.now) grant.entry by.now }
     ensures room { walk.new ≡ walk.old }
 {
     let judge = Judge::new(c, Some(marks), walk);
-    let answer = stands(&judge, right, by);
+    let answer = stands(&judge, grant, by);
     judge.end();
     answer
 }
 
-/// Whether the items at marked places support a right that a user or a role granted, or the grant option of one.
+/// Whether the items at marked places support what a user or a role granted.
 pub fn granted_told(
     c: &Catalogue,
     marks: &Marks,
@@ -225,14 +222,14 @@ pub fn granted_told(
     requires marks { length marks.now ≡ length c.now.items }
     requires options { AreListed c.now.items options.now }
     requires by { spec.IsBy x }
-    ensures answer { IsTrue result ↔ Supported c.now.items (marked c.now.items marks.now) (right_item x.entry.grantable x.entry.right.now) }
+    ensures answer { IsTrue result ↔ Supported c.now.items (marked c.now.items marks.now) (spec.grant_item x.entry.option x.entry.grant) }
     ensures room { walk.new ≡ walk.old }
 {
-    if !is_ready(c, marks, x.right, x.grantable) {
+    if !is_ready(c, marks, x.grant, x.option) {
         return false;
     }
-    if !may_grant(c, marks, walk, options, &x.right.need, x.by) {
+    if !may_grant(c, marks, walk, options, x.grant, x.by) {
         return false;
     }
-    stands_by(c, marks, walk, x.right, x.by)
+    stands_by(c, marks, walk, x.grant, x.by)
 }

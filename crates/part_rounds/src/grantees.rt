@@ -1,100 +1,114 @@
-//! Grant options in the order of whom they are granted to: those to one grantee are found by a search.
+//! Grant options and admin options in the order of what they let grant, and to whom: those to one grantee are found by a search.
 
 ghost use Rattle.std.specs.Prelude.{◌≡◌, ◌↔◌, ◌<◌, All, IfNone, IfOk, IfSome, IsTrue, length};
-ghost use Rattle.cat_items.specs.declared.item.Item.TheVariants as item;
-ghost use Rattle.cat_items.specs.declared.item.Right.{Right};
+ghost use Rattle.cat_items.specs.declared.item.Item.{Item};
 ghost use Rattle.cat_items.specs.Order.{auth_cmp};
 ghost use Rattle.role_graph.specs.Actors.{auth_of};
-ghost use Rattle.part_rounds.specs.Grantees.{AreByGrantee, AreListed, AreOptions, HasOptionTo, grantee_cmp, right_to};
+ghost use Rattle.part_rounds.specs.Grants.{IsOptionTo};
+ghost use Rattle.part_rounds.specs.Grantees.{AreByTitle, AreListed, AreOptions, HasOptionTo, HasTitle, IsOption, IsTitled, title_cmp};
 
-use cat_items::{Auth, Catalogue, Item, Marks, Need, Right};
+use crate::grants::Grant;
+use cat_items::{Catalogue, Item, Marks, Need};
 use role_graph::Actor;
+use sql_tree::Name;
 use std::alloc::{AllocError, Global};
 use std::cmp::Ordering;
 
-/// A grant option: its right, and its place.
+/// What an option lets grant, and to whom the option was granted.
+#[derive(Clone, Copy)]
+pub enum Title<'a> {
+    Role(&'a Name, &'a Name),
+    Right(&'a Need, Actor<'a>),
+}
+
+/// An option: its title, and its place.
 #[derive(Clone, Copy)]
 pub struct GrantOption<'a> {
-    pub right: &'a Right,
+    pub title: Title<'a>,
     pub at: usize,
 }
 
-/// The right whose grant option an item is.
-fn option_in(x: &Item) -> Option<&Right>
-    ensures some { IfSome result (λ r. x.now ≡ item.Grantable r.now) }
-    ensures none { IfNone result ((r : Right) → x.now ≡ item.Grantable r → ⊥) }
+/// The title of an item that is an option.
+fn title_in(x: &Item) -> Option<Title<'_>>
+    ensures some { IfSome result (λ t. IsTitled t x.now) }
+    ensures none { IfNone result (¬ (IsOption x.now)) }
 {
     match x {
-        Item::Grantable(right) => Some(right.get()),
+        Item::RoleAdmin(grant) => {
+            let grant = grant.get();
+            Some(Title::Role(&grant.role, &grant.grantee))
+        }
+        Item::Grantable(right) => {
+            let right = right.get();
+            Some(Title::Right(&right.need, (&right.grantee).into()))
+        }
         _ => None,
     }
 }
 
-/// The grant options of a catalogue, by their places.
+/// The options of a catalogue, by their places.
 fn options_of<'a>(alloc: Global, c: &'a Catalogue) -> Result<Vec<GrantOption<'a>>, AllocError>
     ensures { IfOk result (λ options. AreOptions c.now.items options.items) }
 {
     let items = c.items();
     let mut options = Vec::new(alloc);
     for at in 0..items.len() {
-        if let Some(right) = option_in(&items[at]) {
-            options.push(GrantOption { right, at })?;
+        if let Some(title) = title_in(&items[at]) {
+            options.push(GrantOption { title, at })?;
         }
     }
     Ok(options)
 }
 
-/// Compares two by need and grantee.
-fn compare_options(a: &GrantOption<'_>, b: &GrantOption<'_>) -> Ordering
-    ensures { result ≡ grantee_cmp a.now.right.now b.now.right.now }
+/// Compares whom options are granted to.
+fn compare_grantees(a: Actor<'_>, b: Actor<'_>) -> Ordering
+    ensures { result ≡ auth_cmp (auth_of a.entry) (auth_of b.entry) }
 {
-    let need = a.right.need.cmp(&b.right.need);
-    let grantee = a.right.grantee.cmp(&b.right.grantee);
-    need.then(grantee)
-}
-
-/// The grant options of a catalogue, by need and grantee. `Err` is want of memory.
-pub fn listed<'a>(alloc: Global, c: &'a Catalogue) -> Result<Vec<GrantOption<'a>>, AllocError>
-    ensures { IfOk result (λ options. AreListed c.now.items options.items) }
-{
-    let mut options = options_of(alloc, c)?;
-    options.sort_unstable_by(|a, b| compare_options(a, b));
-    Ok(options)
-}
-
-/// Compares a grantee with another.
-fn compare_grantee(a: &Auth, to: Actor<'_>) -> Ordering
-    ensures { result ≡ auth_cmp a.now (auth_of to.entry) }
-{
-    match (a, to) {
-        (Auth::Named(name), Actor::Named(other)) => name.cmp(other),
-        (Auth::System, Actor::System) => Ordering::Equal,
-        (Auth::Public, Actor::Public) => Ordering::Equal,
-        (Auth::System, _) => Ordering::Less,
+    match (a, b) {
+        (Actor::Named(one), Actor::Named(other)) => one.cmp(other),
+        (Actor::System, Actor::System) => Ordering::Equal,
+        (Actor::Public, Actor::Public) => Ordering::Equal,
+        (Actor::System, _) => Ordering::Less,
         (_, Actor::Named(_)) => Ordering::Less,
         _ => Ordering::Greater,
     }
 }
 
-/// Compares a grant option by need and grantee.
-fn compare_option(option: &GrantOption<'_>, need: &Need, to: Actor<'_>) -> Ordering
-    ensures { result ≡ grantee_cmp option.now.right.now (right_to need.now (auth_of to.entry)) }
+/// Roles come first, and then rights.
+fn compare_titles(a: Title<'_>, b: Title<'_>) -> Ordering
+    ensures { result ≡ title_cmp a.entry b.entry }
 {
-    let needs = option.right.need.cmp(need);
-    let grantees = compare_grantee(&option.right.grantee, to);
-    needs.then(grantees)
+    match (a, b) {
+        (Title::Role(role, to), Title::Role(other, other_to)) => {
+            role.cmp(other).then(to.cmp(other_to))
+        }
+        (Title::Right(need, to), Title::Right(other, other_to)) => {
+            need.cmp(other).then(compare_grantees(to, other_to))
+        }
+        (Title::Role(_, _), _) => Ordering::Less,
+        _ => Ordering::Greater,
+    }
 }
 
-/// Whether a grant option of this need to this grantee is marked: a search.
-pub fn is_marked_to(options: &[GrantOption<'_>], marks: &Marks, need: &Need, to: Actor<'_>) -> bool
-    requires order { AreByGrantee options.now }
-    requires within { All (λ o. o.at < length marks.now) options.now }
-    ensures { IsTrue result ↔ HasOptionTo options.now marks.now need.now (auth_of to.entry) }
+/// The options of a catalogue, by title. `Err` is want of memory.
+pub fn listed<'a>(alloc: Global, c: &'a Catalogue) -> Result<Vec<GrantOption<'a>>, AllocError>
+    ensures { IfOk result (λ options. AreListed c.now.items options.items) }
 {
-    let start = options.partition_point(|option| compare_option(option, need, to).is_lt());
+    let mut options = options_of(alloc, c)?;
+    options.sort_unstable_by(|a, b| compare_titles(a.title, b.title));
+    Ok(options)
+}
+
+/// Whether an option of this title is marked: a search.
+fn is_marked(options: &[GrantOption<'_>], marks: &Marks, title: Title<'_>) -> bool
+    requires order { AreByTitle options.now }
+    requires within { All (λ o. o.at < length marks.now) options.now }
+    ensures { IsTrue result ↔ HasTitle options.now marks.now title.entry }
+{
+    let start = options.partition_point(|option| compare_titles(option.title, title).is_lt());
     for at in start..options.len() {
         let option = &options[at];
-        if compare_option(option, need, to).is_gt() {
+        if compare_titles(option.title, title).is_gt() {
             return false;
         }
         if marks.marked(option.at) {
@@ -102,4 +116,33 @@ pub fn is_marked_to(options: &[GrantOption<'_>], marks: &Marks, need: &Need, to:
         }
     }
     false
+}
+
+/// The title of an option to this grantee that lets grant the same. Nobody but a user or a role is granted a role.
+fn title_to<'a>(grant: Grant<'a>, to: Actor<'a>) -> Option<Title<'a>>
+    ensures some { IfSome result (λ t. (x : Item) → IsTitled t x ↔ IsOptionTo grant.entry (auth_of to.entry) x) }
+    ensures none { IfNone result ((x : Item) → ¬ (IsOptionTo grant.entry (auth_of to.entry) x)) }
+{
+    match (grant, to) {
+        (Grant::Role(grant), Actor::Named(to)) => Some(Title::Role(&grant.role, to)),
+        (Grant::Right(right), to) => Some(Title::Right(&right.need, to)),
+        _ => None,
+    }
+}
+
+/// Whether an option to this grantee that lets grant the same is marked.
+pub fn is_marked_to(
+    options: &[GrantOption<'_>],
+    marks: &Marks,
+    grant: Grant<'_>,
+    to: Actor<'_>,
+) -> bool
+    requires order { AreByTitle options.now }
+    requires within { All (λ o. o.at < length marks.now) options.now }
+    ensures { IsTrue result ↔ HasOptionTo options.now marks.now grant.entry (auth_of to.entry) }
+{
+    match title_to(grant, to) {
+        Some(title) => is_marked(options, marks, title),
+        None => false,
+    }
 }

@@ -12,8 +12,9 @@ ghost use Rattle.role_graph.specs.Roles.{IsRoomFor};
 ghost use Rattle.part_rounds.specs.Grantees.{AreListed};
 ghost use Rattle.part_rounds.specs.Options as spec;
 
-use crate::granted::{granted_in, granted_told, is_held};
+use crate::granted::{granted_told, is_made};
 use crate::grantees::GrantOption;
+use crate::grants::{Grant, granted_in};
 use cat_items::{Auth, Catalogue, Item, Marks, Right};
 use grant_chain::supported;
 use role_graph::{Judge, Walk};
@@ -102,7 +103,7 @@ fn is_held_there(c: &Catalogue, marks: &Marks, walk: &mut Walk, right: &Right) -
     ensures answer { IsTrue result ↔ spec.IsHeldThere (marked c.now.items marks.now) right.now }
     ensures room { walk.new ≡ walk.old }
 {
-    if !is_held(c, marks, right) {
+    if !is_made(c, marks, Grant::Right(right)) {
         return false;
     }
     let judge = Judge::new(c, Some(marks), walk);
@@ -162,7 +163,7 @@ fn told_alone(
     ensures room { walk.new ≡ walk.old }
 {
     match granted_in(x) {
-        Some(right) => granted_told(c, marks, walk, options, right),
+        Some(granted) => granted_told(c, marks, walk, options, granted),
         None => supported(c, marks, walk, x),
     }
 }

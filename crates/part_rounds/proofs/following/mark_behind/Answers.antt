@@ -1,22 +1,25 @@
 use Rattle.std.proofs.Common.{◌∙◌, refl}
 use Rattle.cat_items.specs.Supported.{Supported}
-use Rattle.part_rounds.proofs.RoundLemmas.{grown_within, growth_begins, growth_joins}
+use Rattle.part_rounds.proofs.RoundLemmas.{growth_begins, growth_joins, worklist_more}
 use Rattle.part_rounds.proofs.following.mark_behind.Goals as goal
 
-pub loop-last-init : goal.loop-last-init
-loop-last-init c = record { room = refl; last = c.requires.within; grown = growth_begins _ _ _ c.requires.marks }
+pub loop-at-init : goal.loop-at-init
+loop-at-init c = record {
+  room = refl;
+  grown = growth_begins (Supported c.args.c.now.items) c.args.c.now.items _ c.requires.marks;
+  found = c.requires.known;
+  list = rw (c.push_reserved.ensures.items, c.push_reserved.ensures.capacity) (worklist_more c.args.c.now.items c.args.marks.now c.args.list.now.items c.args.from _ c.requires.within c.requires.free c.requires.list);
+}
 
-pub mark_next-last-requires-clause-room : goal.mark_next-last-requires-clause-room
-mark_next-last-requires-clause-room c = rw c.loop-last.invariant.room c.requires.room
+pub mark_following-found-requires-clause-room : goal.mark_following-found-requires-clause-room
+mark_following-found-requires-clause-room c = rw c.loop-at.invariant.room c.requires.room
 
-pub loop-last-preserved : goal.loop-last-preserved
-loop-last-preserved c =
-    let next = c.mark_next-last.ensures in
+pub loop-at-preserved : goal.loop-at-preserved
+loop-at-preserved c =
+    let followed = c.mark_following-found.ensures in
     record {
-      room = next.room ∙ c.loop-last.invariant.room;
-      last = next.next;
-      grown = growth_joins (Supported c.args.c.now.items) c.args.c.now.items _ _ _ c.loop-last.invariant.grown next.marks next.grown next.kept;
+      room = followed.room ∙ c.loop-at.invariant.room;
+      grown = growth_joins (Supported c.args.c.now.items) c.args.c.now.items _ _ _ c.loop-at.invariant.grown followed.grown;
+      found = followed.known;
+      list = followed.list;
     }
-
-pub returns-clause-within : goal.returns-clause-within
-returns-clause-within c = grown_within (Supported c.args.c.now.items) c.args.c.now.items _ _ c.requires.marks c.loop-last.invariant.grown.grown

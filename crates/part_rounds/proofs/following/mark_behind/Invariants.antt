@@ -1,15 +1,18 @@
-use Rattle.std.proofs.Common.{◌≡◌, ◌+◌, ◌<◌, not, length, count_by}
-use Rattle.std.specs.Prelude.{IfSome}
+use Rattle.std.proofs.Common.{◌≡◌, ◌+◌, not, length, count_by}
+use Rattle.std.specs.Vec.{vec_capacity}
 use Rattle.cat_items.specs.Supported.{Supported}
-use Rattle.part_rounds.proofs.RoundLemmas.{HaveGrown, one_more}
+use Rattle.role_graph.specs.Marked.{marked}
+use Rattle.part_rounds.specs.Grown.{HaveGrown, IsWorklist}
+use Rattle.part_rounds.specs.Options.{Knows}
 use Rattle.part_rounds.proofs.following.mark_behind.Given as goal
 
-abbrev pub invariant-loop-last : goal.invariant-loop-last
-invariant-loop-last l = record {
+abbrev pub invariant-loop-at : goal.invariant-loop-at
+invariant-loop-at l = record {
   room : l.walk ≡ l.initial.walk;
-  last : IfSome l.last (λ at. at < length l.c.items);
   grown : HaveGrown (Supported l.c.items) l.c.items l.initial.marks l.marks;
+  found : Knows l.c.items (marked l.c.items l.marks) l.found;
+  list : IsWorklist l.c.items l.marks l.list.items (vec_capacity l.list);
 }
 
-abbrev pub decreases-loop-last : goal.decreases-loop-last
-decreases-loop-last l = count_by not l.marks + one_more l.last
+abbrev pub decreases-loop-at : goal.decreases-loop-at
+decreases-loop-at l = length l.list.items + count_by not l.marks

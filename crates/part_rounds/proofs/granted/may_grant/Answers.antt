@@ -12,13 +12,13 @@ pub returns-then-is_open-clause-answer : goal.returns-then-is_open-clause-answer
 returns-then-is_open-clause-answer c =
     let l = c.args.c.now.items in
     let m = c.args.marks.now in
-    let need = c.args.need.now in
+    let g = c.args.grant in
     let by = c.args.by.now in
-    let own = option_there l c.args.options.now m need (Named by) c.requires.options.options_are in
-    let public = option_there l c.args.options.now m need Public c.requires.options.options_are in (
+    let own = option_there l c.args.options.now m g (Named by) c.requires.options.options_are in
+    let public = option_there l c.args.options.now m g Public c.requires.options.options_are in (
       λ _. elim (c.is_open.ensures.0 c.if-is_open.true) [
-        | inl h ↦ from_own l (marked l m) need by (own.0 h)
-        | inr h ↦ from_public l (marked l m) need by (public.0 h)
+        | inl h ↦ from_own l (marked l m) g by (own.0 h)
+        | inr h ↦ from_public l (marked l m) g by (public.0 h)
       ],
       λ _. c.if-is_open.true,
     )
@@ -27,12 +27,12 @@ pub returns-else-is_open-clause-answer : goal.returns-else-is_open-clause-answer
 returns-else-is_open-clause-answer c =
     let l = c.args.c.now.items in
     let m = c.args.marks.now in
-    let need = c.args.need.now in
+    let g = c.args.grant in
     let by = c.args.by.now in
-    let own = option_there l c.args.options.now m need (Named by) c.requires.options.options_are in
-    let public = option_there l c.args.options.now m need Public c.requires.options.options_are in (
-      λ e. from_way l (marked l m) need by (c.has_way.ensures.answer.0 e),
-      λ h. elim (ways l (marked l m) need by (marked_within l m) h) [
+    let own = option_there l c.args.options.now m g (Named by) c.requires.options.options_are in
+    let public = option_there l c.args.options.now m g Public c.requires.options.options_are in (
+      λ e. from_way l (marked l m) g by (c.has_way.ensures.answer.0 e),
+      λ h. elim (ways l (marked l m) g by (marked_within l m) h) [
         | inl k ↦ absurd (both_ways _ c.if-is_open.false (c.is_open.ensures.1 (inl (own.1 k))))
         | inr other ↦ elim other [
           | inl k ↦ absurd (both_ways _ c.if-is_open.false (c.is_open.ensures.1 (inr (public.1 k))))

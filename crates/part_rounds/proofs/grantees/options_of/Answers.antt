@@ -14,10 +14,10 @@ loop-at-preserved c =
     let low : at < length items = omega (arith, c.loop-at-test.true, ap length c.items-items.ensures.items) in
     let is : x ≡ get_or items at x = subst (λ l. x ≡ get_or l at x) c.items-items.ensures.items c.index-items-at.is in
     record {
-      listed = elim c.match-option_in.branch [
+      listed = elim c.match-title_in.branch [
         | in-Some+in_ok-push w ↦
             rw (w.options-is, w.in_ok-push.ensures.items)
-            (options_more items c.loop-at.options.items at (record { right = w.in-Some.right; at = at }) x refl low is w.in-Some.ensures.some c.loop-at.invariant.listed)
+            (options_more items c.loop-at.options.items at (record { title = w.in-Some.title; at = at }) x refl low is w.in-Some.ensures.some c.loop-at.invariant.listed)
         | in_default w ↦ rw w.options-is (options_same items c.loop-at.options.items at x low is w.in_default.ensures.none c.loop-at.invariant.listed)
       ];
     }

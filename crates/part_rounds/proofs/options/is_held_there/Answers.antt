@@ -7,8 +7,8 @@ use Rattle.cat_items.specs.Rights.{Stands}
 use Rattle.role_graph.specs.Marked.{counted, marked}
 use Rattle.part_rounds.proofs.options.is_held_there.Goals as goal
 
-pub returns-then-not-is_held-clause-answer : goal.returns-then-not-is_held-clause-answer
-returns-then-not-is_held-clause-answer c = (λ e. absurd (false≢true e), λ h. absurd (both_ways _ c.if-not-is_held.true (c.is_held.ensures.1 h.1)))
+pub returns-then-not-is_made-clause-answer : goal.returns-then-not-is_made-clause-answer
+returns-then-not-is_made-clause-answer c = (λ e. absurd (false≢true e), λ h. absurd (both_ways _ c.if-not-is_made.true (c.is_made.ensures.1 h.1)))
 
 pub returns-clause-answer : goal.returns-clause-answer
 returns-clause-answer c =
@@ -17,4 +17,4 @@ returns-clause-answer c =
     let stands : IsTrue c.stands-answer.result ↔ Stands (marked c.args.c.now.items c.args.marks.now) need =
     subst (λ (items : List Item). IsTrue c.stands-answer.result ↔ Stands (counted items (Some c.args.marks.now)) need) c.new-judge.ensures.items
     (subst (λ (marks : Option (List Bool)). IsTrue c.stands-answer.result ↔ Stands (counted judge.items marks) need) c.new-judge.ensures.marks (subst (λ (n : Need). IsTrue c.stands-answer.result ↔ Stands (counted judge.items judge.marks) n) c.into.ensures c.stands-answer.ensures)) in
-    (λ e. (stands.0 e, c.is_held.ensures.0 c.if-not-is_held.false), λ h. stands.1 h.0)
+    (λ e. (stands.0 e, c.is_made.ensures.0 c.if-not-is_made.false), λ h. stands.1 h.0)

@@ -1,47 +1,32 @@
--- The order of grant options by need and grantee, and what a search in it finds.
+-- The order of options by title, and what a search in it finds.
 use Rattle.std.proofs.Common.{◌≡◌, ◌+◌, ◌<◌, ◌≤◌, ℕ, Bool, true, false, List, Some, None, length, get_or, refl, sym, ap, ◌∙◌, subst, inl, inr, arith}
-use Rattle.std.specs.Cmp.{IsTotalOrder}
 use Rattle.std.specs.FinMap.{IsAntisymmetric, nat_cmp-IsAntisymmetric, slice_cmp-IsAntisymmetric}
 use Rattle.std.specs.List.Sorted.{IsNonDecreasingBy, IsPartitionedBy, IsPartitionPoint}
 use Rattle.std.specs.Option.{option_cmp}
 use Rattle.std.specs.Ordering.{is_gt, is_lt, nat_cmp, ordering_index, ordering_then}
 use Rattle.std.specs.declared.cmp.Ordering.{Ordering}
 use Rattle.std.specs.declared.cmp.Ordering.TheVariants.{Less, Equal, Greater}
-use Rattle.std.proofs.lemmas.Cmp.{on_total, then_total, tied_itself}
+use Rattle.std.proofs.lemmas.Cmp.{tied_itself}
 use Rattle.std.proofs.lemmas.Bool.{cases_lt, false≢true}
 use Rattle.std.proofs.lemmas.List.{get_or_default}
 use Rattle.std.proofs.lemmas.List.Sorted.{searchable_from_sorted}
 use Rattle.sql_names.specs.Names.{name_cmp-IsAntisymmetric}
 use Rattle.sql_tree.specs.declared.rights.Action.{Action}
 use Rattle.sql_tree.specs.declared.rights.Action.TheVariants as action
-use Rattle.cat_items.specs.declared.need.Auth.{Auth}
 use Rattle.cat_items.specs.declared.need.Auth.TheVariants.{System, Public, Named}
 use Rattle.cat_items.specs.declared.item.Right.{Right}
-use Rattle.cat_items.specs.contracts.need.AuthOrd.TheImpl as auth
-use Rattle.cat_items.specs.contracts.need.AuthOrd.TheImpl.Laws as auth_laws
-use Rattle.cat_items.specs.contracts.need.NeedOrd.TheImpl as need
-use Rattle.cat_items.specs.Order.{action_number, auth_cmp, auth_rank, name_cmp, need_cmp}
-use Rattle.cat_items.proofs.OrderLemmas.{need_cmp-total, same_need}
+use Rattle.cat_items.specs.declared.item.RoleGrant.{RoleGrant}
+use Rattle.cat_items.specs.declared.item.Item.{Item}
+use Rattle.cat_items.specs.declared.item.Item.TheVariants as item
+use Rattle.cat_items.specs.Order.{action_number, auth_cmp, auth_rank, item_cmp, name_cmp, need_cmp, right_cmp, role_grant_cmp}
+use Rattle.cat_items.proofs.OrderLemmas.{item_cmp-total}
 use Rattle.part_rounds.specs.declared.grantees.GrantOption.{GrantOption}
-use Rattle.part_rounds.specs.Grantees.{AreByGrantee, HasOptionTo, grantee_cmp}
-
--- ---- the order is a total one
-
-same_auth : (a b : Auth) → auth.ghosts.cmp a b ≡ auth_cmp a b
-same_auth System System = refl
-same_auth Public Public = refl
-same_auth (Named a) (Named b) = refl
-same_auth a b = refl
-
--- what the derived orders compute
-pub same_grantee_cmp : (a b : Right) → ordering_then (need.ghosts.cmp a.need b.need) (auth.ghosts.cmp a.grantee b.grantee) ≡ grantee_cmp a b
-same_grantee_cmp a b = ap (λ o. ordering_then o (auth.ghosts.cmp a.grantee b.grantee)) (same_need a.need b.need) ∙ ap (ordering_then (need_cmp a.need b.need)) (same_auth a.grantee b.grantee)
-
-auth_cmp-total : IsTotalOrder auth_cmp
-auth_cmp-total = subst IsTotalOrder (λ i x y. same_auth x y i) auth_laws.total-law
-
-pub grantee_cmp-total : IsTotalOrder grantee_cmp
-grantee_cmp-total = then_total (on_total (λ (r : Right). r.need) need_cmp-total) (on_total (λ (r : Right). r.grantee) auth_cmp-total)
+use Rattle.part_rounds.specs.declared.grantees.Title.{Title}
+use Rattle.part_rounds.specs.declared.grantees.Title.TheVariants as title
+use Rattle.part_rounds.specs.declared.grants.Grant.{Grant}
+use Rattle.part_rounds.specs.declared.grants.Grant.TheVariants as grant
+use Rattle.part_rounds.specs.Grants.{grant_item}
+use Rattle.part_rounds.specs.Grantees.{AreByTitle, HasTitle, title_cmp, titled}
 
 -- ---- what compares as equal
 
@@ -56,7 +41,7 @@ action_number-is action.Execute action.Execute e = refl
 action_number-is action.Admin action.Admin e = refl
 action_number-is a b e = absurd (omega (arith, e))
 
-pub both_equal : (a b : Ordering) → ordering_then a b ≡ Equal → (a ≡ Equal) × (b ≡ Equal)
+both_equal : (a b : Ordering) → ordering_then a b ≡ Equal → (a ≡ Equal) × (b ≡ Equal)
 both_equal Less b e = absurd (let odd : Less ≡ Equal = e in cc)
 both_equal Equal b e = (refl, e)
 both_equal Greater b e = absurd (let odd : Greater ≡ Equal = e in cc)
@@ -67,7 +52,7 @@ option_cmp-is R same None (Some b) e = absurd (let odd : Less ≡ Equal = e in c
 option_cmp-is R same (Some a) None e = absurd (let odd : Greater ≡ Equal = e in cc)
 option_cmp-is R same (Some a) (Some b) e = ap Some (same a b e)
 
-pub need_cmp-is : IsAntisymmetric need_cmp
+need_cmp-is : IsAntisymmetric need_cmp
 need_cmp-is a b e =
     let both = both_equal (nat_cmp (action_number a.action) (action_number b.action)) _ e in
     let rest = both_equal _ _ both.1 in
@@ -76,18 +61,58 @@ need_cmp-is a b e =
     let columns : a.column ≡ b.column = option_cmp-is name_cmp name_cmp-IsAntisymmetric a.column b.column rest.1 in
     λ i. record { action = actions i; on = objects i; column = columns i }
 
-pub auth_cmp-is : IsAntisymmetric auth_cmp
+auth_cmp-is : IsAntisymmetric auth_cmp
 auth_cmp-is (Named a) (Named b) e = ap Named (name_cmp-IsAntisymmetric a b e)
 auth_cmp-is System System e = refl
 auth_cmp-is Public Public e = refl
 auth_cmp-is a b e = absurd (omega (arith, nat_cmp-IsAntisymmetric (auth_rank a) (auth_rank b) e))
 
--- one need and one grantee
-equal_from : (a b : Right) → a.need ≡ b.need → a.grantee ≡ b.grantee → grantee_cmp a b ≡ Equal
-equal_from a b needs grantees = rw (needs, grantees) (tied_itself grantee_cmp-total b)
+role_grant_cmp-is : IsAntisymmetric role_grant_cmp
+role_grant_cmp-is a b e =
+    let both = both_equal (name_cmp a.role b.role) _ e in
+    let rest = both_equal _ _ both.1 in
+    let roles : a.role ≡ b.role = name_cmp-IsAntisymmetric a.role b.role both.0 in
+    let grantors : a.grantor ≡ b.grantor = auth_cmp-is a.grantor b.grantor rest.0 in
+    let grantees : a.grantee ≡ b.grantee = name_cmp-IsAntisymmetric a.grantee b.grantee rest.1 in
+    λ i. record { role = roles i; grantor = grantors i; grantee = grantees i }
 
-pub equal_is : (a b : Right) → grantee_cmp a b ≡ Equal → (a.need ≡ b.need) × (a.grantee ≡ b.grantee)
-equal_is a b e = let both = both_equal (need_cmp a.need b.need) (auth_cmp a.grantee b.grantee) e in (need_cmp-is a.need b.need both.0, auth_cmp-is a.grantee b.grantee both.1)
+right_cmp-is : IsAntisymmetric right_cmp
+right_cmp-is a b e =
+    let both = both_equal (need_cmp a.need b.need) _ e in
+    let rest = both_equal _ _ both.1 in
+    let needs : a.need ≡ b.need = need_cmp-is a.need b.need both.0 in
+    let grantors : a.grantor ≡ b.grantor = auth_cmp-is a.grantor b.grantor rest.0 in
+    let grantees : a.grantee ≡ b.grantee = auth_cmp-is a.grantee b.grantee rest.1 in
+    λ i. record { need = needs i; grantor = grantors i; grantee = grantees i }
+
+role_from_key : (y : Item) (g : RoleGrant) → item_cmp y (item.RoleAuth g) ≡ Equal → y ≡ item.RoleAuth g
+role_from_key (item.RoleAuth q) g e = ap item.RoleAuth (role_grant_cmp-is q g e)
+role_from_key (item.RoleAdmin q) g e = absurd (let odd : Greater ≡ Equal = e in cc)
+role_from_key (item.Held q) g e = absurd (let odd : Greater ≡ Equal = e in cc)
+role_from_key (item.Grantable q) g e = absurd (let odd : Greater ≡ Equal = e in cc)
+role_from_key y g e = absurd (let odd : Less ≡ Equal = e in cc)
+
+held_from_key : (y : Item) (r : Right) → item_cmp y (item.Held r) ≡ Equal → y ≡ item.Held r
+held_from_key (item.Held q) r e = ap item.Held (right_cmp-is q r e)
+held_from_key (item.Grantable q) r e = absurd (let odd : Greater ≡ Equal = e in cc)
+held_from_key y r e = absurd (let odd : Less ≡ Equal = e in cc)
+
+-- an item with the key of a grant is it
+pub grant_from_key : (y : Item) (g : Grant) → item_cmp y (grant_item false g) ≡ Equal → y ≡ grant_item false g
+grant_from_key y (grant.Role g) e = role_from_key y g.now e
+grant_from_key y (grant.Right r) e = held_from_key y r.now e
+
+-- ---- titles
+
+titled-is : (a b : Title) → title_cmp a b ≡ Equal → titled a ≡ titled b
+titled-is (title.Role a to) (title.Role b other) e = ap item.RoleAdmin (role_grant_cmp-is _ _ e)
+titled-is (title.Right a to) (title.Right b other) e = ap item.Grantable (right_cmp-is _ _ e)
+titled-is (title.Role a to) (title.Right b other) e = absurd (let odd : Less ≡ Equal = e in cc)
+titled-is (title.Right a to) (title.Role b other) e = absurd (let odd : Greater ≡ Equal = e in cc)
+
+-- options of one title are at one place of the order
+equal_from : (a b : Title) → titled a ≡ titled b → title_cmp a b ≡ Equal
+equal_from a b e = ap (λ x. item_cmp x (titled b)) e ∙ tied_itself item_cmp-total (titled b)
 
 -- ---- a search
 
@@ -103,12 +128,12 @@ none_marked_more options marks from at o low is none off k d lo hi = elim (cases
       subst (λ n. get_or marks (get_or options n d).at false ≡ false) e (subst (λ (p : GrantOption). get_or marks p.at false ≡ false) (is ∙ get_or_default options at o d low) off)
 ]
 
-module _ (options : List GrantOption) (x : Right) where
+module _ (options : List GrantOption) (x : Title) where
   abbrev place : GrantOption → Ordering
-  place o = grantee_cmp o.right.now x
+  place o = title_cmp o.title x
 
-  rises : AreByGrantee options → IsNonDecreasingBy (λ o. ordering_index (place o)) options
-  rises order = searchable_from_sorted grantee_cmp-total (λ (o : GrantOption). o.right.now) options x order
+  rises : AreByTitle options → IsNonDecreasingBy (λ o. ordering_index (place o)) options
+  rises order = searchable_from_sorted item_cmp-total (λ (o : GrantOption). titled o.title) options (titled x) order
 
   less_before : (o p : Ordering) → ordering_index o ≤ ordering_index p → is_lt p ≡ true → is_lt o ≡ true
   less_before Less p le e = refl
@@ -125,7 +150,7 @@ module _ (options : List GrantOption) (x : Right) where
   greater_behind Equal p le e = absurd (false≢true e)
 
   -- the options that come before those that are sought
-  pub options_parted : AreByGrantee options → IsPartitionedBy (λ o. is_lt (place o)) options
+  pub options_parted : AreByTitle options → IsPartitionedBy (λ o. is_lt (place o)) options
   options_parted order i j d low high e = less_before (place (get_or options i d)) (place (get_or options j d)) (rises order i j d low high) e
 
   abbrev pub StartsAt : ℕ → Type 0
@@ -143,10 +168,10 @@ module _ (options : List GrantOption) (x : Right) where
   equal_not_greater o e h = false≢true (sym (ap is_gt e) ∙ h)
 
   -- one at the start or behind it that isn't behind those that are sought is one of them
-  pub is_sought : (start at : ℕ) (o : GrantOption) → StartsAt start → start ≤ at → at < length options → o ≡ get_or options at o → is_gt (place o) ≡ false → (o.right.now.need ≡ x.need) × (o.right.now.grantee ≡ x.grantee)
+  pub is_sought : (start at : ℕ) (o : GrantOption) → StartsAt start → start ≤ at → at < length options → o ≡ get_or options at o → is_gt (place o) ≡ false → titled o.title ≡ titled x
   is_sought start at o starts from low is not_behind =
       let not_before : is_lt (place o) ≡ false = subst (λ (p : GrantOption). is_lt (place p) ≡ false) (sym is) (starts.1 at o from low) in
-      equal_is o.right.now x (level (place o) not_before not_behind)
+      titled-is o.title x (level (place o) not_before not_behind)
 
   -- one that is sought, and is marked, where none is up to a place
   module _ (marks : List Bool) (start at : ℕ) (starts : StartsAt start) (none : NoneMarked options marks start at) where
@@ -157,15 +182,15 @@ module _ (options : List GrantOption) (x : Right) where
     ]
 
     -- all have been looked at
-    pub none_of_all : length options ≤ at → HasOptionTo options marks x.need x.grantee → ⊥
-    none_of_all all h = none_at h.0 h.1.0 h.1.2 (omega (arith, h.1.1, all)) (equal_from h.0.right.now x h.2 h.3) h.4
+    pub none_of_all : length options ≤ at → HasTitle options marks x → ⊥
+    none_of_all all h = none_at h.0 h.1.0 h.1.2 (omega (arith, h.1.1, all)) (equal_from h.0.title x h.2) h.3
 
     -- what stands at the place is behind those that are sought
-    pub none_behind : AreByGrantee options → (o : GrantOption) → at < length options → o ≡ get_or options at o → is_gt (place o) ≡ true → HasOptionTo options marks x.need x.grantee → ⊥
+    pub none_behind : AreByTitle options → (o : GrantOption) → at < length options → o ≡ get_or options at o → is_gt (place o) ≡ true → HasTitle options marks x → ⊥
     none_behind order o low is behind h = elim (cases_lt h.1.0 at) [
-      | inl before ↦ none_at h.0 h.1.0 h.1.2 before (equal_from h.0.right.now x h.2 h.3) h.4
+      | inl before ↦ none_at h.0 h.1.0 h.1.2 before (equal_from h.0.title x h.2) h.3
       | inr from ↦
           let here : is_gt (place (get_or options at h.0)) ≡ true = subst (λ (p : GrantOption). is_gt (place p) ≡ true) (is ∙ get_or_default options at o h.0 low) behind in
           let there : is_gt (place (get_or options h.1.0 h.0)) ≡ true = greater_behind (place (get_or options at h.0)) (place (get_or options h.1.0 h.0)) (rises order at h.1.0 h.0 from h.1.1) here in
-          equal_not_greater (place h.0) (equal_from h.0.right.now x h.2 h.3) (subst (λ (p : GrantOption). is_gt (place p) ≡ true) h.1.2 there)
+          equal_not_greater (place h.0) (equal_from h.0.title x h.2) (subst (λ (p : GrantOption). is_gt (place p) ≡ true) h.1.2 there)
     ]
