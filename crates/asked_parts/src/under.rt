@@ -11,23 +11,22 @@ ghost use Rattle.asked_parts.specs.Under as spec;
 
 use crate::helpers::is_helper;
 use cat_items::{Catalogue, Item};
-use edit_rules::put;
 use indexmap::IndexSet;
 use item_index::{Index, Steps};
 use std::alloc::{AllocError, Global};
 use std::hash::BuildHasher;
 use std::sync::ledger::Ledger;
+use topic_keys::in_order;
 
 /// Puts in the item of this number, if it has one and no mark.
 fn put_unmarked<S: BuildHasher + Drop, L: Ledger>(
     board: &Index<Item, S>,
     marks: &IndexSet<usize>,
     number: usize,
-    found: &mut Catalogue,
+    found: &mut Vec<Item>,
     steps: &mut Steps<L>,
 ) -> Result<(), AllocError>
-    requires node { IsNode board.now number }
-    requires apart { spec.AreApart board.now marks.now.keys found.old.items }
+    requires { IsNode board.now number }
     ensures found { OnOk result (Gets (spec.IsUnmarkedAt board.now marks.now.keys number) found.old.items found.new.items) }
     ensures ticks { steps.new ≤ steps.old + 1 }
 {
@@ -38,7 +37,8 @@ fn put_unmarked<S: BuildHasher + Drop, L: Ledger>(
     if is_helper(key) {
         return Ok(());
     }
-    put(found, key.copy()?)
+    found.push(key.copy()?)?;
+    Ok(())
 }
 
 /// Puts in each unmarked item that this number rests on.
@@ -46,7 +46,7 @@ fn put_rests<S: BuildHasher + Drop, L: Ledger>(
     board: &Index<Item, S>,
     marks: &IndexSet<usize>,
     node: usize,
-    found: &mut Catalogue,
+    found: &mut Vec<Item>,
     steps: &mut Steps<L>,
 ) -> Result<(), AllocError>
     requires node { IsNode board.now node }
@@ -68,7 +68,7 @@ fn put_under<S: BuildHasher + Drop, L: Ledger>(
     board: &Index<Item, S>,
     marks: &IndexSet<usize>,
     key: &Item,
-    found: &mut Catalogue,
+    found: &mut Vec<Item>,
     steps: &mut Steps<L>,
 ) -> Result<(), AllocError>
     requires key { IsHelper key.now }
@@ -97,9 +97,9 @@ pub fn items_under<S: BuildHasher + Drop, L: Ledger>(
     ensures apart { IfOk result (λ found. spec.AreApart board.now marks.now.keys found.items) }
     ensures ticks { steps.new ≤ steps.old + sum_by (spec.look_ups board.now) keys.now }
 {
-    let mut found = Catalogue::of_sorted(Vec::new(alloc));
+    let mut found = Vec::new(alloc);
     for key in keys {
         put_under(board, marks, key, &mut found, steps)?;
     }
-    Ok(found)
+    Ok(Catalogue::of_sorted(in_order(found)))
 }

@@ -1,18 +1,30 @@
-use Rattle.std.proofs.Common.{◌∙◌, inr, arith}
+use Rattle.std.proofs.Common.{◌≡◌, ◌↔◌, ◌≤◌, inr, ℕ, List, [], length, arith, subst, sym}
+use Rattle.std.specs.List.{Contains}
 use Rattle.cat_items.specs.declared.item.Item.{Item}
-use Rattle.topic_keys.specs.Lists.{IsKeyWhere}
-use Rattle.topic_keys.proofs.Adding.{IsOfSome, each_begin, each_end, each_more}
+use Rattle.cascade_laws.specs.Topics.{Topic}
+use Rattle.topic_keys.specs.Lists.{Gets, IsKeyWhere}
+use Rattle.topic_keys.proofs.Adding.{IsOfFirst, IsOfSome, each_begin, each_end, each_more}
+use Rattle.topic_keys.proofs.OrderLaws.{keys_known}
 use Rattle.topic_lists.specs.Sought.{IsAskedFor}
 use Rattle.topic_lists.proofs.Runs.{gets_from_none}
 use Rattle.asked_parts.specs.Parts.{IsAskedBy}
 use Rattle.asked_parts.proofs.asking.asked_by.Goals as goal
 
+-- a key of a topic that one of the suspects asks for
+abbrev IsAskedBySome : List Item → List Item → Topic → Type 0
+IsAskedBySome part suspects t = (x : Item) × Contains suspects x × IsAskedFor part x t
+
+all_asked : (part suspects none all : List Item) (i : ℕ) → length suspects ≤ i → none ≡ [] → Gets (IsOfFirst (λ x. IsKeyWhere (IsAskedFor part x)) suspects i) none all → (k : Item) → Contains all k ↔ IsAskedBy part suspects k
+all_asked part suspects none all i high empty put =
+    let R = λ (x : Item). IsKeyWhere (IsAskedFor part x) in
+    gets_from_none (IsOfSome R suspects) (IsAskedBy part suspects) none all empty (λ k. (λ h. h, λ h. h)) (each_end R suspects none all i high put)
+
 pub loop-x-init : goal.loop-x-init
-loop-x-init c = record { put = each_begin (λ (x : Item). IsKeyWhere (IsAskedFor c.args.part.now.items x)) c.args.suspects.now c.of_sorted-all.result.items; asked = tt }
+loop-x-init c = record { put = each_begin (λ (x : Item). IsKeyWhere (IsAskedFor c.args.part.now.items x)) c.args.suspects.now c.new-all.result.items; asked = tt }
 
 pub loop-x-preserved : goal.loop-x-preserved
 loop-x-preserved c = record {
-  put = each_more (λ (x : Item). IsKeyWhere (IsAskedFor c.args.part.now.items x)) c.args.suspects.now c.of_sorted-all.result.items c.loop-x.all.items c.put_asked.new.keys.items c.loop-x.x-index c.x-item.result c.loop-x-test.true c.x-item.is c.loop-x.invariant.put
+  put = each_more (λ (x : Item). IsKeyWhere (IsAskedFor c.args.part.now.items x)) c.args.suspects.now c.new-all.result.items c.loop-x.all.items c.put_asked.new.keys.items c.loop-x.x-index c.x-item.result c.loop-x-test.true c.x-item.is c.loop-x.invariant.put
       c.in_ok-put_asked.ensures;
   asked = λ k is. (c.in_ok-put_asked.ensures k).1 (inr is);
 }
@@ -20,10 +32,19 @@ loop-x-preserved c = record {
 pub put_asked-requires : goal.put_asked-requires
 put_asked-requires c = c.loop-x.invariant.asked
 
+pub in_order-requires : goal.in_order-requires
+in_order-requires c =
+    let part = c.args.part.now.items in
+    let suspects = c.args.suspects.now in
+    let are = all_asked part suspects c.new-all.result.items c.loop-x.all.items c.loop-x.x-index (omega (arith, c.loop-x-test.false)) c.new-all.ensures.items c.loop-x.invariant.put in
+    keys_known (IsAskedBySome part suspects) c.loop-x.all.items (λ k h. let by = (are k).0 h in (by.2.0, (by.0, by.1, by.2.1), by.2.2))
+
 pub returns : goal.returns
 returns c =
-    let R = λ (x : Item). IsKeyWhere (IsAskedFor c.args.part.now.items x) in
+    let part = c.args.part.now.items in
     let suspects = c.args.suspects.now in
-    let none = c.of_sorted-all.result.items in
-    gets_from_none (IsOfSome R suspects) (IsAskedBy c.args.part.now.items suspects) none c.loop-x.all.items (c.of_sorted-all.ensures.items ∙ c.new.ensures.items) (λ k. (λ h. h, λ h. h))
-    (each_end R suspects none c.loop-x.all.items c.loop-x.x-index (omega (arith, c.loop-x-test.false)) c.loop-x.invariant.put)
+    let are = all_asked part suspects c.new-all.result.items c.loop-x.all.items c.loop-x.x-index (omega (arith, c.loop-x-test.false)) c.new-all.ensures.items c.loop-x.invariant.put in
+    λ k. (
+      λ h. (are k).0 ((c.in_order.ensures.members k).0 (subst (λ l. Contains l k) c.of_sorted.ensures.items h)),
+      λ h. subst (λ l. Contains l k) (sym c.of_sorted.ensures.items) ((c.in_order.ensures.members k).1 ((are k).1 h)),
+    )

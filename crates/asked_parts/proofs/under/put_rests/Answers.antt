@@ -10,8 +10,8 @@ pub loop-number-init : goal.loop-number-init
 loop-number-init g c =
     record { found = each_begin (IsUnmarkedAt c.args.board.now c.args.marks.now.keys) (list_at c.args.board.now.rests c.args.node) c.args.found.now.items; apart = c.requires.apart; ticks = omega (arith); within = omega (arith) }
 
-pub put_unmarked-requires-clause-node : goal.put_unmarked-requires-clause-node
-put_unmarked-requires-clause-node g c =
+pub put_unmarked-requires : goal.put_unmarked-requires
+put_unmarked-requires g c =
     let all = list_at c.args.board.now.rests c.args.node in
     rests_are_nodes c.args.board.now c.args.node c.in-Some.number c.rests.ensures.whole (Contains-of_some all c.loop-number.at c.in-Some.number c.in-Some.ensures.rests)
 
