@@ -1,10 +1,12 @@
 -- Lists in order that grow, and sums over lists without repeats.
-use Rattle.std.proofs.Common.{◌≡◌, ◌⊎◌, inl, inr, ℕ, Bool, true, false, IsTrue, IsFalse, suc, ◌+◌, ◌<◌, ◌≤◌, List, [], ◌∷◌, ◌++◌, length, get_or, take, drop, refl, sym, ◌∙◌, ap, subst, arith}
+use Rattle.std.proofs.Common.{◌≡◌, ◌⊎◌, inl, inr, ℕ, Bool, true, false, not, Option, Some, None, zero, suc, ◌+◌, ◌<◌, ◌≤◌, List, [], ◌∷◌, ◌++◌, length, get_or, take, drop, refl, sym, ◌∙◌, ap, subst, arith}
 use Rattle.std.specs.List.{Contains, sum_by}
+use Rattle.std.specs.Option.{IfNone, IfSome, is_some}
 use Rattle.std.specs.declared.cmp.Ordering.TheVariants.{Less, Equal, Greater}
-use Rattle.std.proofs.lemmas.Bool.{cases_lt}
+use Rattle.std.specs.Bool.{◌==◌}
+use Rattle.std.proofs.lemmas.Bool.{cases_lt, eqb-true}
 use Rattle.std.proofs.lemmas.List.{get_or_default, take-append-drop, take_more}
-use Rattle.std.proofs.lemmas.List.Elements.{Contains-append_cases, Contains-append_left}
+use Rattle.std.proofs.lemmas.List.Elements.{Contains-append_cases, Contains-append_left, Contains-push_cases}
 use Rattle.std.proofs.lemmas.List.Sums.{sum_by-cons}
 use Rattle.finite_chains.specs.Chains.{IsWithin}
 use Rattle.finite_chains.proofs.Members.{Contains-cases, Contains-head, Contains-nil, Contains-tail}
@@ -107,14 +109,6 @@ no_more {X} f (x ∷ xs) ys o w =
 pub from_take : {X : Type 0} (n : ℕ) (xs : List X) (x : X) → n ≤ length xs → Contains (take n xs) x → Contains xs x
 from_take n xs x fits h = subst (λ l. Contains l x) (take-append-drop n xs) (Contains-append_left (take n xs) (drop n xs) x h)
 
--- one member more is within too
-pub within_next : {X : Type 0} (i : ℕ) (xs ys : List X) (x : X) → i < length xs → x ≡ get_or xs i x → IsWithin (take i xs) ys → Contains ys x → IsWithin (take (i + 1) xs) ys
-within_next i xs ys x low is w there y h =
-    elim (Contains-append_cases (take i xs) (x ∷ []) y (subst (λ l. Contains l y) (take_more xs i x low ∙ ap (λ z. take i xs ++ z ∷ []) (sym is)) h)) [
-      | inl before ↦ w y before
-      | inr last ↦ elim (Contains-cases x [] y last) [ inl e ↦ subst (Contains ys) e there | inr none ↦ absurd (Contains-nil y none) ]
-    ]
-
 -- where no item of a list in order, and none of the first of others in order, has another's place, a further one may be put in
 pub apart_from_next : (old items : List Item) (part : List Item) (i : ℕ) (x : Item) → IsInOrder items → ((a b : Item) → Contains old a → Contains items b → item_cmp a b ≡ Equal → a ≡ b) → Gets (IsOfFirst (λ (a y : Item). y ≡ a) items i) old part
     → i < length items → x ≡ get_or items i x → (y : Item) → Contains part y → item_cmp y x ≡ Equal → y ≡ x
@@ -125,24 +119,37 @@ apart_from_next old items part i x order apart gets low is y h e =
       | inr of ↦ one_by_key items order y x (subst (Contains items) (sym of.2) (from_take i items of.0 (omega (arith, low)) of.1)) here e
     ]
 
--- where a list grew by no item, it is as it was
-pub grew_by_none : (old part new items : List Item) (i : ℕ) (x : Item) → i < length items → x ≡ get_or items i x → length old ≤ length part → length part ≤ length new → (length new ≤ length part → Contains part x × (new ≡ part))
-    → (length part ≤ length old → IsWithin (take i items) old × (part ≡ old)) → length new ≤ length old → IsWithin (take (i + 1) items) old × (new ≡ old)
-grew_by_none old part new items i x low is grown more step so_far few =
-    let now : Contains part x × (new ≡ part) = step (omega (arith, few, grown)) in
-    let before : IsWithin (take i items) old × (part ≡ old) = so_far (omega (arith, few, more)) in
-    (within_next i items old x low is before.0 (subst (λ l. Contains l x) before.1 now.0), now.1 ∙ before.1)
+-- ---- items that come to a part, or are there
 
--- ---- an item that is put in, or there
+pub none_of_empty : (n : ℕ) (empty : Bool) → empty ≡ (n == 0) → not empty ≡ false → n ≡ 0
+none_of_empty n true says told = eqb-true n 0 (sym says)
+none_of_empty n false says told = absurd (let odd : true ≡ false = told in cc)
 
-pub no_shorter : (put : Bool) (old new : List Item) → (IsTrue put → length new ≡ length old + 1) → (IsFalse put → new ≡ old) → length old ≤ length new
-no_shorter true old new longer same = omega (arith, longer refl)
-no_shorter false old new longer same = omega (arith, ap length (same refl))
+pub some_of_other : (n : ℕ) (empty : Bool) → empty ≡ (n == 0) → not empty ≡ true → 0 < n
+some_of_other zero empty says told = absurd (let odd : false ≡ true = sym (ap not says) ∙ told in cc)
+some_of_other (suc n) empty says told = omega arith
 
-pub is_there : (put : Bool) (old new : List Item) (copy item : Item) → copy ≡ item → (IsTrue put → length new ≡ length old + 1) → (IsFalse put → (k : ℕ) × HasKeyAt old k copy) → (IsFalse put → new ≡ old) → ((y : Item) → Contains old y → item_cmp y item ≡ Equal → y ≡ item) → length new ≤ length old → Contains old item × (new ≡ old)
-is_there true old new copy item is longer found same own short = absurd (omega (arith, longer refl, short))
-is_there false old new copy item is longer found same own short =
-    let has = found refl in
-    let y : Item = get_or old has.0 item in
-    let tie : item_cmp y item ≡ Equal = subst (λ z. item_cmp y z ≡ Equal) is (has.1.1 item) in
-    ((has.0, has.1.0, own y (has.0, has.1.0, get_or_default old has.0 y item has.1.0) tie), same refl)
+pub none_found : {X : Type 0} (found : Option X) (not_found : Bool) (P : Type 0) → is_some found ≡ not not_found → not_found ≡ true → IfNone found P → P
+none_found None not_found P says told h = h
+none_found (Some x) not_found P says told h = absurd (let odd : true ≡ false = says ∙ ap not told in cc)
+
+pub one_found : {X : Type 0} (found : Option X) (not_found : Bool) (P : X → Type 0) → is_some found ≡ not not_found → not_found ≡ false → IfSome found P → (x : X) × P x
+one_found (Some x) not_found P says told h = (x, h)
+one_found None not_found P says told h = absurd (let odd : false ≡ true = says ∙ ap not told in cc)
+
+module _ (part items : List Item) (apart : (x y : Item) → Contains part x → Contains items y → item_cmp x y ≡ Equal → x ≡ y) where
+  -- an item whose key the part has is one of the part
+  pub is_there : (x : Item) → Contains items x → (k : ℕ) → HasKeyAt part k x → Contains part x
+  is_there x here k has =
+      let y : Item = get_or part k x in
+      let there : Contains part y = (k, has.0, get_or_default part k y x has.0) in
+      subst (Contains part) (apart y x there here (has.1 x)) there
+
+  -- so it is of each further one
+  pub either_more : (new more : List Item) (i : ℕ) (x : Item) → i < length items → x ≡ get_or items i x → IsWithin new more → Contains part x ⊎ Contains more x → ((y : Item) → Contains (take i items) y → Contains part y ⊎ Contains new y)
+      → (y : Item) → Contains (take (i + 1) items) y → Contains part y ⊎ Contains more y
+  either_more new more i x low is within so either y h =
+      elim (Contains-push_cases (take i items) x y (subst (λ l. Contains l y) (take_more items i x low ∙ ap (λ z. take i items ++ z ∷ []) (sym is)) h)) [
+        | inl before ↦ (elim (either y before) [ inl old ↦ inl old | inr n ↦ inr (within y n) ])
+        | inr e ↦ subst (λ z. Contains part z ⊎ Contains more z) e so
+      ]

@@ -1,6 +1,6 @@
 -- More suspects come to a part, with what their options add to.
-use Rattle.std.proofs.Common.{◌≡◌, ◌⊎◌, ◌↔◌, inl, inr, ℕ, List, [], sym}
-use Rattle.std.specs.List.{Contains}
+use Rattle.std.proofs.Common.{◌≡◌, ◌⊎◌, ◌↔◌, ◌≤◌, inl, inr, ℕ, List, [], sym}
+use Rattle.std.specs.List.{Contains, sum_by}
 use Rattle.std.specs.declared.cmp.Ordering.TheVariants.{Equal}
 use Rattle.finite_chains.specs.Chains.{IsWithin}
 use Rattle.finite_chains.proofs.Members.{Contains-nil}
@@ -10,12 +10,12 @@ use Rattle.cat_items.specs.Catalogues.{IsInOrder}
 use Rattle.cat_items.specs.Order.{item_cmp}
 use Rattle.edit_rules.proofs.ItemKeys.{one_granted}
 use Rattle.topic_keys.specs.Lists.{Gets}
-use Rattle.asked_parts.specs.Parts.{IsAskedBy}
+use Rattle.asked_parts.specs.Parts.{HasAsked, IsAskedBy}
 use Rattle.asked_parts.specs.Rounds.{HasAskedAll, IsAddedToBySome, IsBegun, IsClosed, IsLeast, IsUnderWay, WasAsked}
-use Rattle.asked_parts.specs.Under.{AreApart}
+use Rattle.asked_parts.specs.Under.{AreApart, look_ups}
 use Rattle.asked_parts.proofs.AskLaws.{asked_by_more}
 use Rattle.asked_parts.proofs.BeginLaws.{option_granted}
-use Rattle.asked_parts.proofs.GrowthLaws.{one_by_key}
+use Rattle.asked_parts.proofs.GrowthLaws.{no_more, once, one_by_key}
 use Rattle.asked_parts.proofs.UnderLaws.{flipped}
 
 -- what is closed for all suspects is closed for some of them
@@ -105,5 +105,8 @@ module _ (g : Graph Item) (marks : List ℕ) (suspects more part asked : List It
       ]
 
   -- what was asked for before costs no more than what all of the suspects ask for
-  pub asked_within_all : (p keys : List Item) → IsClosed g marks suspects p → ((k : Item) → IsAskedBy p suspects k → Contains keys k) → IsWithin asked keys
+  asked_within_all : (p keys : List Item) → IsClosed g marks suspects p → HasAsked p suspects keys → IsWithin asked keys
   asked_within_all p keys closed has k h = has k (asked_by_more part p (was.1.least p (closed_for g marks was.0 suspects p some closed)) suspects k (asked_still k h))
+
+  pub asked_costs_no_more : (p keys : List Item) → IsClosed g marks suspects p → HasAsked p suspects keys → sum_by (look_ups g) asked ≤ sum_by (look_ups g) keys
+  asked_costs_no_more p keys closed has = no_more (look_ups g) asked keys (once asked was.1.way.asked_order) (asked_within_all p keys closed has)

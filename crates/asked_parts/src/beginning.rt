@@ -87,7 +87,7 @@ pub(crate) fn begun<S: BuildHasher + Drop, L: Ledger>(
     ensures ticks { steps.new ≤ steps.old + length suspects.now }
 {
     let mut part = Catalogue::of_sorted(Vec::new(alloc));
-    put_copies(&mut part, suspects)?;
+    put_copies(alloc, &mut part, suspects)?;
     for x in suspects {
         put_added_to(board, marks, x, &mut part, steps)?;
     }

@@ -48,7 +48,7 @@ fn look_up<S: BuildHasher + Drop, L: Ledger>(
     let found = items_under(alloc, board, marks, keys.items(), steps)?;
     asked.reserve(keys.items().len())?;
     asked.put_in_all(keys.into_items());
-    let grew = put_copies(part, found.items())?;
+    let grew = put_copies(alloc, part, found.items())?;
     Ok(grew && ask_again(part, suspects.items(), found.items()))
 }
 
@@ -102,7 +102,7 @@ pub fn ask_more<S: BuildHasher + Drop, L: Ledger>(
     }
     let _ = suspects.items();
     let first = begun(alloc, board, marks, more.items(), steps)?;
-    put_copies(part, first.items())?;
+    put_copies(alloc, part, first.items())?;
     let schemas = schema_keys(alloc, more.items(), asked)?;
     look_up(alloc, board, marks, suspects, schemas, part, asked, steps)?;
     while round(alloc, board, marks, suspects, part, asked, steps)? {}

@@ -1,30 +1,29 @@
-use Rattle.std.proofs.Common.{◌≡◌, arith}
+use Rattle.std.proofs.Common.{List, inl, inr, length, ap, arith, subst}
+use Rattle.std.specs.List.{Contains}
 use Rattle.cat_items.specs.declared.item.Item.{Item}
-use Rattle.topic_keys.proofs.Adding.{each_end, each_more}
-use Rattle.topic_lists.proofs.Runs.{gets_listed}
-use Rattle.asked_parts.proofs.GrowthLaws.{apart_from_next, grew_by_none}
+use Rattle.cat_items.specs.Batch.{IsJoined}
+use Rattle.asked_parts.proofs.GrowthLaws.{none_of_empty, some_of_other}
 use Rattle.asked_parts.proofs.growing.put_copies.Goals as goal
 
-pub put_copy-requires : goal.put_copy-requires
-put_copy-requires c =
-    apart_from_next c.args.part.now.items c.args.items.now c.loop-item.part.items c.loop-item.item-index c.item-item.result c.requires.order c.requires.apart c.loop-item.invariant.members c.loop-item-test.true c.item-item.is
-
-pub loop-item-preserved : goal.loop-item-preserved
-loop-item-preserved c =
-    let items = c.args.items.now in
-    let old = c.args.part.now.items in
-    let part = c.loop-item.part.items in
-    let new = c.put_copy.new.part.items in
-    let i = c.loop-item.item-index in
-    let x = c.item-item.result in
-    let step = c.in_ok-put_copy.ensures in
-    record {
-      members = each_more (λ (a y : Item). y ≡ a) items old part new i x c.loop-item-test.true c.item-item.is c.loop-item.invariant.members step.members;
-      len = omega (arith, c.loop-item.invariant.len, step.len);
-      there = grew_by_none old part new items i x c.loop-item-test.true c.item-item.is c.loop-item.invariant.len step.len step.there c.loop-item.invariant.there;
-    }
+pub put_in_all-requires-clause-new : goal.put_in_all-requires-clause-new
+put_in_all-requires-clause-new c = λ x y h n e.
+    let new = (c.in_ok-new.ensures.chosen.members y).0 n in
+    let old : Contains c.args.part.now.items x = subst (λ l. Contains l x) c.reserve.ensures.items h in
+    new.1 (subst (Contains c.args.part.now.items) (c.requires.apart x y old new.0 e) old)
 
 pub returns-clause-members : goal.returns-clause-members
 returns-clause-members c =
-    let items = c.args.items.now in
-    gets_listed items c.args.part.now.items c.loop-item.part.items (each_end (λ (a y : Item). y ≡ a) items c.args.part.now.items c.loop-item.part.items c.loop-item.item-index (omega (arith, c.loop-item-test.false)) c.loop-item.invariant.members)
+    let joined = subst (λ (l : List Item). IsJoined l c.in_ok-new.new.items c.put_in_all.new.self.items) c.reserve.ensures.items c.put_in_all.ensures.members in
+    λ y. (
+      λ h. elim ((joined y).0 h) [ inl old ↦ inl old | inr new ↦ inr ((c.in_ok-new.ensures.chosen.members y).0 new).0 ],
+      λ h. (joined y).1 (elim h [ inl old ↦ inl old | inr here ↦ c.in_ok-new.ensures.either y here ]),
+    )
+
+pub returns-clause-there : goal.returns-clause-there
+returns-clause-there c = λ none y h. elim (c.in_ok-new.ensures.either y h) [
+  | inl old ↦ old
+  | inr new ↦ absurd (omega (arith, none_of_empty _ c.is_empty-more.result c.is_empty-more.ensures none, new.1, c.in_ok-new.new.ok))
+]
+
+pub returns-clause-more : goal.returns-clause-more
+returns-clause-more c = λ some. omega (arith, some_of_other _ c.is_empty-more.result c.is_empty-more.ensures some, c.put_in_all.ensures.len, ap length c.reserve.ensures.items)

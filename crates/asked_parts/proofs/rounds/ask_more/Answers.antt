@@ -4,115 +4,52 @@ use Rattle.std.proofs.lemmas.Bool.{eqb-true}
 use Rattle.item_index.specs.Graphs.{Graph}
 use Rattle.cat_items.specs.declared.item.Item.{Item}
 use Rattle.topic_keys.specs.Lists.{Gets}
-use Rattle.asked_parts.specs.Rounds.{IsAddedToBySome}
-use Rattle.asked_parts.specs.Under.{look_ups}
-use Rattle.asked_parts.proofs.GrowthLaws.{no_more, once}
-use Rattle.asked_parts.proofs.MoreLaws.{asked_before, asked_within_all, first_apart, least_more, way_more}
+use Rattle.asked_parts.specs.Rounds.{HasAskedAll, IsAddedToBySome, WasAsked}
+use Rattle.asked_parts.proofs.MoreLaws.{asked_before, asked_costs_no_more, first_apart, least_more, way_more}
 use Rattle.asked_parts.proofs.PartLaws.{part_closed, within_room}
 use Rattle.asked_parts.proofs.SchemaLaws.{schema_asked}
 use Rattle.asked_parts.proofs.rounds.ask_more.Goals as goal
 
+-- what is said of equal lists
 first_equal : (g : Graph Item) (marks : List ℕ) (a b first : List Item) → a ≡ b → ((y : Item) → Contains first y ↔ (Contains a y ⊎ IsAddedToBySome g marks a y)) → (y : Item) → Contains first y ↔ (Contains b y ⊎ IsAddedToBySome g marks b y)
 first_equal g marks a b first e are = subst (λ (l : List Item). (y : Item) → Contains first y ↔ (Contains l y ⊎ IsAddedToBySome g marks l y)) e are
 
+gets_equal : (a b old new : List Item) → a ≡ b → Gets (Contains a) old new → Gets (Contains b) old new
+gets_equal a b old new e gets = subst (λ (l : List Item). Gets (Contains l) old new) e gets
+
+none_asked_more : (g : Graph Item) (marks : List ℕ) (suspects more part asked shown : List Item) → shown ≡ more → length shown ≡ 0 → WasAsked g marks suspects more part asked → HasAskedAll g marks suspects part asked
+none_asked_more g marks suspects more part asked shown e none was = asked_before g marks suspects more part asked was (λ x h. absurd (omega (arith, none, (subst (λ l. Contains l x) (sym e) h).1)))
+
 pub returns-then-is_empty-clause-asked : goal.returns-then-is_empty-clause-asked
-returns-then-is_empty-clause-asked g c =
-    let graph = c.args.board.now in
-    let marks = c.args.marks.now.keys in
-    let suspects = c.args.suspects.now.items in
-    let more = c.args.more.now.items in
-    let part = c.args.part.now.items in
-    let asked = c.args.asked.now.items in
-    let was = c.requires.before in
-    let none : length c.items.result.now ≡ 0 = eqb-true (length c.items.result.now) 0 (sym c.is_empty.ensures ∙ c.if-is_empty.true) in
-    let all = asked_before graph marks suspects more part asked was (λ x h. absurd (omega (arith, none, (subst (λ l. Contains l x) (sym c.items.ensures.items) h).1))) in
-    all
+returns-then-is_empty-clause-asked g c = none_asked_more _ _ _ _ _ _ _ c.items.ensures.items (eqb-true _ 0 (sym c.is_empty.ensures ∙ c.if-is_empty.true)) c.requires.before
 
 pub returns-then-is_empty-clause-part : goal.returns-then-is_empty-clause-part
 returns-then-is_empty-clause-part g c =
-    let graph = c.args.board.now in
-    let marks = c.args.marks.now.keys in
-    let suspects = c.args.suspects.now.items in
-    let more = c.args.more.now.items in
-    let part = c.args.part.now.items in
-    let asked = c.args.asked.now.items in
-    let was = c.requires.before in
-    let none : length c.items.result.now ≡ 0 = eqb-true (length c.items.result.now) 0 (sym c.is_empty.ensures ∙ c.if-is_empty.true) in
-    let all = asked_before graph marks suspects more part asked was (λ x h. absurd (omega (arith, none, (subst (λ l. Contains l x) (sym c.items.ensures.items) h).1))) in
-    λ cat no full. part_closed graph cat no full marks suspects part all.way.order all.way.from all.closed
+    let all = none_asked_more _ _ _ _ _ _ _ c.items.ensures.items (eqb-true _ 0 (sym c.is_empty.ensures ∙ c.if-is_empty.true)) c.requires.before in
+    λ cat no full. part_closed c.args.board.now cat no full c.args.marks.now.keys c.args.suspects.now.items c.args.part.now.items all.way.order all.way.from all.closed
 
 pub returns-then-is_empty-clause-ticks : goal.returns-then-is_empty-clause-ticks
-returns-then-is_empty-clause-ticks g c =
-    let graph = c.args.board.now in
-    let marks = c.args.marks.now.keys in
-    let suspects = c.args.suspects.now.items in
-    let more = c.args.more.now.items in
-    let part = c.args.part.now.items in
-    let asked = c.args.asked.now.items in
-    let was = c.requires.before in
-    λ p keys closed has. omega (arith, no_more (look_ups graph) asked keys (once asked was.1.way.asked_order) (asked_within_all graph marks suspects more part asked was p keys closed has))
+returns-then-is_empty-clause-ticks g c = λ p keys closed has. omega (arith, asked_costs_no_more _ _ _ _ _ _ c.requires.before p keys closed has)
 
 pub returns-in_err-first-clause-ticks : goal.returns-in_err-first-clause-ticks
-returns-in_err-first-clause-ticks g c =
-    let graph = c.args.board.now in
-    let marks = c.args.marks.now.keys in
-    let suspects = c.args.suspects.now.items in
-    let more = c.args.more.now.items in
-    let part = c.args.part.now.items in
-    let asked = c.args.asked.now.items in
-    let was = c.requires.before in
-    λ p keys closed has. omega (arith, no_more (look_ups graph) asked keys (once asked was.1.way.asked_order) (asked_within_all graph marks suspects more part asked was p keys closed has), c.begun.ensures.ticks, ap length c.items-3.ensures.items)
+returns-in_err-first-clause-ticks g c = λ p keys closed has. omega (arith, asked_costs_no_more _ _ _ _ _ _ c.requires.before p keys closed has, c.begun.ensures.ticks, ap length c.items-3.ensures.items)
 
 pub put_copies-requires-clause-apart : goal.put_copies-requires-clause-apart
 put_copies-requires-clause-apart g c =
-    let graph = c.args.board.now in
-    let marks = c.args.marks.now.keys in
-    let suspects = c.args.suspects.now.items in
-    let more = c.args.more.now.items in
-    let part = c.args.part.now.items in
-    let asked = c.args.asked.now.items in
-    let was = c.requires.before in
-    let first = c.in_ok-first.first.items in
-    let are : (y : Item) → Contains first y ↔ (Contains more y ⊎ IsAddedToBySome graph marks more y) =
-    subst (λ (l : List Item). (y : Item) → Contains first y ↔ (Contains l y ⊎ IsAddedToBySome graph marks l y)) c.items-3.ensures.items c.in_ok-first.ensures.members in
-    λ x y h f e. first_apart graph marks suspects more part asked was first are c.requires.apart c.items-2.ensures.order x y h (subst (λ l. Contains l y) c.items-4.ensures.items f) e
+    let are = first_equal c.args.board.now c.args.marks.now.keys _ c.args.more.now.items c.in_ok-first.first.items c.items-3.ensures.items c.in_ok-first.ensures.members in
+    λ x y h f e. first_apart _ _ _ _ _ _ c.requires.before c.in_ok-first.first.items are c.requires.apart c.items-2.ensures.order x y h (subst (λ l. Contains l y) c.items-4.ensures.items f) e
 
 pub returns-in_err-put_copies-clause-ticks : goal.returns-in_err-put_copies-clause-ticks
-returns-in_err-put_copies-clause-ticks g c =
-    let graph = c.args.board.now in
-    let marks = c.args.marks.now.keys in
-    let suspects = c.args.suspects.now.items in
-    let more = c.args.more.now.items in
-    let part = c.args.part.now.items in
-    let asked = c.args.asked.now.items in
-    let was = c.requires.before in
-    λ p keys closed has. omega (arith, no_more (look_ups graph) asked keys (once asked was.1.way.asked_order) (asked_within_all graph marks suspects more part asked was p keys closed has), c.begun.ensures.ticks, ap length c.items-3.ensures.items)
+returns-in_err-put_copies-clause-ticks g c = λ p keys closed has. omega (arith, asked_costs_no_more _ _ _ _ _ _ c.requires.before p keys closed has, c.begun.ensures.ticks, ap length c.items-3.ensures.items)
 
 pub returns-in_err-schemas-clause-ticks : goal.returns-in_err-schemas-clause-ticks
-returns-in_err-schemas-clause-ticks g c =
-    let graph = c.args.board.now in
-    let marks = c.args.marks.now.keys in
-    let suspects = c.args.suspects.now.items in
-    let more = c.args.more.now.items in
-    let part = c.args.part.now.items in
-    let asked = c.args.asked.now.items in
-    let was = c.requires.before in
-    λ p keys closed has. omega (arith, no_more (look_ups graph) asked keys (once asked was.1.way.asked_order) (asked_within_all graph marks suspects more part asked was p keys closed has), c.begun.ensures.ticks, ap length c.items-3.ensures.items)
+returns-in_err-schemas-clause-ticks g c = λ p keys closed has. omega (arith, asked_costs_no_more _ _ _ _ _ _ c.requires.before p keys closed has, c.begun.ensures.ticks, ap length c.items-3.ensures.items)
 
 pub look_up-requires-clause-way : goal.look_up-requires-clause-way
 look_up-requires-clause-way g c =
-    let graph = c.args.board.now in
-    let marks = c.args.marks.now.keys in
-    let suspects = c.args.suspects.now.items in
-    let more = c.args.more.now.items in
-    let part = c.args.part.now.items in
-    let asked = c.args.asked.now.items in
-    let was = c.requires.before in
-    let first = c.in_ok-first.first.items in
-    let are = first_equal graph marks _ more first c.items-3.ensures.items c.in_ok-first.ensures.members in
-    let new = c.put_copies.new.part.items in
-    let gets : Gets (Contains first) part new = subst (λ (l : List Item). Gets (Contains l) part new) c.items-4.ensures.items c.in_ok-put_copies.ensures.members in
-    way_more graph marks suspects more part asked was first are new gets c.in_ok-put_copies.ensures.order
+    let are = first_equal c.args.board.now c.args.marks.now.keys _ c.args.more.now.items c.in_ok-first.first.items c.items-3.ensures.items c.in_ok-first.ensures.members in
+    let gets = gets_equal _ c.in_ok-first.first.items c.args.part.now.items c.put_copies.new.part.items c.items-4.ensures.items c.in_ok-put_copies.ensures.members in
+    way_more _ _ _ _ _ _ c.requires.before c.in_ok-first.first.items are c.put_copies.new.part.items gets c.in_ok-put_copies.ensures.order
 
 pub look_up-requires-clause-keys : goal.look_up-requires-clause-keys
 look_up-requires-clause-keys g c =
@@ -125,48 +62,23 @@ look_up-requires-clause-keys g c =
 
 pub returns-in_err-look_up-clause-ticks : goal.returns-in_err-look_up-clause-ticks
 returns-in_err-look_up-clause-ticks g c =
-    let graph = c.args.board.now in
-    let marks = c.args.marks.now.keys in
-    let suspects = c.args.suspects.now.items in
-    let more = c.args.more.now.items in
-    let part = c.args.part.now.items in
-    let asked = c.args.asked.now.items in
-    let was = c.requires.before in
-    let first = c.in_ok-first.first.items in
-    let are = first_equal graph marks _ more first c.items-3.ensures.items c.in_ok-first.ensures.members in
-    let new = c.put_copies.new.part.items in
-    let gets : Gets (Contains first) part new = subst (λ (l : List Item). Gets (Contains l) part new) c.items-4.ensures.items c.in_ok-put_copies.ensures.members in
-    λ p keys closed has. omega (arith, c.look_up.ensures.few p keys (least_more graph marks suspects more part asked was first are new gets) closed has, c.begun.ensures.ticks, ap length c.items-3.ensures.items)
+    let are = first_equal c.args.board.now c.args.marks.now.keys _ c.args.more.now.items c.in_ok-first.first.items c.items-3.ensures.items c.in_ok-first.ensures.members in
+    let gets = gets_equal _ c.in_ok-first.first.items c.args.part.now.items c.put_copies.new.part.items c.items-4.ensures.items c.in_ok-put_copies.ensures.members in
+    let least = least_more _ _ _ _ _ _ c.requires.before c.in_ok-first.first.items are c.put_copies.new.part.items gets in
+    λ p keys closed has. omega (arith, c.look_up.ensures.few p keys least closed has, c.begun.ensures.ticks, ap length c.items-3.ensures.items)
 
 pub loop-first-init : goal.loop-first-init
 loop-first-init g c =
-    let graph = c.args.board.now in
-    let marks = c.args.marks.now.keys in
-    let suspects = c.args.suspects.now.items in
-    let more = c.args.more.now.items in
-    let part = c.args.part.now.items in
-    let asked = c.args.asked.now.items in
-    let was = c.requires.before in
-    let first = c.in_ok-first.first.items in
-    let are = first_equal graph marks _ more first c.items-3.ensures.items c.in_ok-first.ensures.members in
-    let new = c.put_copies.new.part.items in
-    let gets : Gets (Contains first) part new = subst (λ (l : List Item). Gets (Contains l) part new) c.items-4.ensures.items c.in_ok-put_copies.ensures.members in
+    let are = first_equal c.args.board.now c.args.marks.now.keys _ c.args.more.now.items c.in_ok-first.first.items c.items-3.ensures.items c.in_ok-first.ensures.members in
+    let gets = gets_equal _ c.in_ok-first.first.items c.args.part.now.items c.put_copies.new.part.items c.items-4.ensures.items c.in_ok-put_copies.ensures.members in
     record {
       way = c.in_ok-look_up.ensures.way;
-      least = c.in_ok-look_up.ensures.least (least_more graph marks suspects more part asked was first are new gets);
+      least = c.in_ok-look_up.ensures.least (least_more _ _ _ _ _ _ c.requires.before c.in_ok-first.first.items are c.put_copies.new.part.items gets);
       spent = omega (arith, c.in_ok-look_up.ensures.spent, c.begun.ensures.ticks, ap length c.items-3.ensures.items);
     }
 
 pub returns-in_err-round-clause-ticks : goal.returns-in_err-round-clause-ticks
-returns-in_err-round-clause-ticks g c =
-    let graph = c.args.board.now in
-    let marks = c.args.marks.now.keys in
-    let suspects = c.args.suspects.now.items in
-    let more = c.args.more.now.items in
-    let part = c.args.part.now.items in
-    let asked = c.args.asked.now.items in
-    let was = c.requires.before in
-    λ p keys closed has. omega (arith, c.loop-first.invariant.spent, c.round.ensures.few p keys c.loop-first.invariant.least closed has)
+returns-in_err-round-clause-ticks g c = λ p keys closed has. omega (arith, c.loop-first.invariant.spent, c.round.ensures.few p keys c.loop-first.invariant.least closed has)
 
 pub loop-first-smaller : goal.loop-first-smaller
 loop-first-smaller g c =
@@ -180,5 +92,4 @@ returns-clause-part g c =
     λ cat no full. part_closed c.args.board.now cat no full c.args.marks.now.keys c.args.suspects.now.items c.round.new.part.items way.order way.from (c.in_ok-round.ensures.closed c.if-branch.false)
 
 pub returns-clause-ticks : goal.returns-clause-ticks
-returns-clause-ticks g c =
-    λ p keys closed has. omega (arith, c.loop-first.invariant.spent, c.round.ensures.few p keys c.loop-first.invariant.least closed has)
+returns-clause-ticks g c = λ p keys closed has. omega (arith, c.loop-first.invariant.spent, c.round.ensures.few p keys c.loop-first.invariant.least closed has)
