@@ -1,0 +1,62 @@
+//! A walk along a list in order, by items that rise.
+
+ghost use Rattle.std.specs.Prelude.{◌≡◌, ◌≤◌, ◌↔◌, IsTrue};
+ghost use Rattle.std.specs.List.{Contains};
+ghost use Rattle.std.specs.Result.{MatchResult};
+ghost use Rattle.std.specs.declared.cmp.Ordering.TheVariants.{Less};
+ghost use Rattle.cat_items.specs.declared.item.Item.{Item};
+ghost use Rattle.cat_items.specs.Catalogues.{HasKeyAt, IsInOrder};
+ghost use Rattle.cat_items.specs.Order.{item_cmp};
+ghost use Rattle.item_lists.specs.Walks.{AreBefore, IsGap};
+
+use cat_items::{Item, compare_items, same_item};
+use std::cmp::Ordering;
+
+/// The place of the key of `x`, or the one where it would stand, where all items before `from` come before it: a search of the others.
+fn search_from(items: &[Item], from: usize, x: &Item) -> Result<usize, usize>
+    requires order { IsInOrder items.now }
+    requires before { AreBefore items.now from x.now }
+    ensures place { MatchResult result (λ at. HasKeyAt items.now at x.now) (λ gap. IsGap items.now gap x.now) }
+    ensures from { MatchResult result (λ at. from ≤ at) (λ gap. from ≤ gap) }
+{
+    match items[from..].binary_search_by(|y| compare_items(y, x)) {
+        Ok(at) => Ok(from + at),
+        Err(gap) => Err(from + gap),
+    }
+}
+
+/// What `search_from` finds; the item at `from` is looked at first, since it often decides.
+pub(crate) fn place_from(items: &[Item], from: usize, x: &Item) -> Result<usize, usize>
+    requires order { IsInOrder items.now }
+    requires before { AreBefore items.now from x.now }
+    ensures place { MatchResult result (λ at. HasKeyAt items.now at x.now) (λ gap. IsGap items.now gap x.now) }
+    ensures from { MatchResult result (λ at. from ≤ at) (λ gap. from ≤ gap) }
+{
+    if from == items.len() {
+        return Err(from);
+    }
+    match compare_items(&items[from], x) {
+        Ordering::Equal => Ok(from),
+        Ordering::Greater => Err(from),
+        Ordering::Less => search_from(items, from + 1, x),
+    }
+}
+
+/// Whether `x` stands in a list in order, where all items before `from` come before it. `from` goes behind all that don't come behind `x`.
+pub(crate) fn stands_from(items: &[Item], from: &mut usize, x: &Item) -> bool
+    requires order { IsInOrder items.now }
+    requires before { AreBefore items.now from.old x.now }
+    ensures stands { IsTrue result ↔ Contains items.now x.now }
+    ensures passed { (y : Item) → item_cmp x.now y ≡ Less → AreBefore items.now from.new y }
+{
+    match place_from(items, *from, x) {
+        Ok(at) => {
+            *from = at + 1;
+            same_item(&items[at], x)
+        }
+        Err(gap) => {
+            *from = gap;
+            false
+        }
+    }
+}
