@@ -1,5 +1,5 @@
 -- Rights that are put in unless a node without a mark keeps them, and the suspects by these.
-use Rattle.std.proofs.Common.{length, ◌≤◌, Option, Some, None, ◌≡◌, ◌⊎◌, ◌↔◌, inl, inr, ℕ, List, [], refl, sym, ◌∙◌, subst}
+use Rattle.std.proofs.Common.{length, ◌≤◌, Option, Some, None, ◌≡◌, ◌⊎◌, ◌↔◌, inl, inr, ℕ, List, refl, sym, ◌∙◌, subst}
 use Rattle.std.specs.List.{Contains}
 use Rattle.item_index.specs.Graphs.{Graph}
 use Rattle.cat_items.specs.declared.edit.Edit.{Edit}
@@ -16,8 +16,7 @@ use Rattle.edit_rules.proofs.ItemKeys.{only_granted}
 use Rattle.board_graph.specs.BoardKeys.{ghost_key}
 use Rattle.board_marks.specs.Marks.{IsMarked}
 use Rattle.topic_keys.specs.Lists.{Gets}
-use Rattle.topic_keys.proofs.Adding.{gets_alike, gets_both, gets_none}
-use Rattle.topic_lists.proofs.Runs.{gets_from_none}
+use Rattle.topic_keys.proofs.Adding.{gets_alike, gets_none}
 use Rattle.edit_suspects.specs.Seeds.{HaveSpread, of_changed, of_target}
 use Rattle.edit_suspects.proofs.GhostKeys.{possible_is_granted}
 use Rattle.asked_parts.specs.Under as under
@@ -40,12 +39,6 @@ module _ (g : Graph Item) (marks : List ℕ) (right : Item) where
 
   pub put_unless : (copy : Item) (old new : List Item) → copy ≡ right → IsMarked g marks right → IsMarked g marks (ghost_key right) → Gets (λ y. y ≡ copy) old new → Gets (IsUnlessKept g marks right) old new
   put_unless copy old new is own ghost gets = gets_alike (λ y. y ≡ copy) (IsUnlessKept g marks right) old new (λ x. (λ e. (e ∙ is, own, ghost), λ h. h.0 ∙ sym is)) gets
-
--- two lists, one after the other
-pub both_joined : (items rights lent_items lent_rights none mid new : List Item) → none ≡ [] → lent_items ≡ items → lent_rights ≡ rights → Gets (Contains lent_items) none mid → Gets (Contains lent_rights) mid new → (x : Item) → Contains new x ↔ (Contains items x ⊎ Contains rights x)
-both_joined items rights lent_items lent_rights none mid new empty same same2 first second =
-    gets_from_none (λ x. Contains items x ⊎ Contains rights x) (λ x. Contains items x ⊎ Contains rights x) none new empty (λ x. (λ h. h, λ h. h))
-    (gets_both (Contains items) (Contains rights) none mid new (subst (λ (l : List Item). Gets (Contains l) none mid) same first) (subst (λ (l : List Item). Gets (Contains l) mid new) same2 second))
 
 module _ (g : Graph Item) (edit : Edit) (marks : List ℕ) where
   pub touched_granted : (rights : List Item) → ((x : Item) → Contains rights x ↔ IsTouchedRight g marks x) → (x : Item) → Contains rights x → IsRightOrRoleGrant x

@@ -12,7 +12,7 @@ use Rattle.cat_items.specs.Catalogues.{IsInOrder}
 use Rattle.cat_items.specs.Order.{item_cmp}
 use Rattle.cat_items.proofs.CatalogueLemmas.{none_at}
 use Rattle.cat_items.proofs.KeyLemmas.{same_key}
-use Rattle.edit_rules.specs.Chosen.{IsRightOrRoleGrant}
+use Rattle.edit_rules.specs.Chosen.{AreAll, IsRightOrRoleGrant}
 use Rattle.edit_rules.proofs.ItemKeys.{one_granted}
 use Rattle.board_graph.specs.BoardKeys.{IsHelper, ghost_key}
 use Rattle.board_steps.proofs.Edited.{good_apart}
@@ -22,8 +22,8 @@ use Rattle.topic_keys.proofs.Adding.{IsOfFirst, IsOfSome, each_more, gets_alike,
 use Rattle.topic_lists.proofs.Runs.{gets_from_none}
 use Rattle.edit_suspects.specs.Helpers.{may_be_ghost}
 use Rattle.asked_parts.proofs.GrowthLaws.{one_by_key}
-use Rattle.asked_parts.proofs.UnderLaws.{one_at}
-use Rattle.edit_parts.specs.Touched.{AreApart, FitsBoard, IsItem, IsLeft, IsLeftAt, IsRightAt, IsRightOf, IsTouchedItem}
+use Rattle.asked_parts.proofs.UnderLaws.{flipped, one_at}
+use Rattle.edit_parts.specs.Touched.{AreApart, FitsBoard, IsLeft, IsLeftAt, IsRightAt, IsRightOf, IsTouchedItem, IsTouchedRight}
 
 -- ---- lists in order
 
@@ -111,16 +111,30 @@ number_more R numbers marks same i low old mid new first second =
     subst (λ (l : List ℕ). Gets (IsOfFirst R l i) old mid → Gets (IsOfFirst R l (i + 1)) old new) same
     (λ before. each_more R numbers old mid new i (get_or numbers i 0) low (get_or_default numbers i 0 (get_or numbers i 0) low) before second) first
 
-pub left_items : (g : Graph Item) (edit : Edit) (n : ℕ) (old new : List Item) → ((x : Item) → Contains old x → IsItem g x) → Gets (IsLeftAt g edit n) old new → (x : Item) → Contains new x → IsItem g x
-left_items g edit n old new before gets x h = elim ((gets x).0 h) [ inl there ↦ before x there | inr at ↦ ((n, at.0), at.1) ]
-
 module _ (g : Graph Item) (edit : Edit) (marks : List ℕ) (none items : List Item) (empty : none ≡ []) (gets : Gets (IsOfSome (IsLeftAt g edit) marks) none items) where
-  pub added_apart : AreApart g edit → (added : List Item) → added ≡ edit.added → (x y : Item) → Contains items x → Contains added y → item_cmp x y ≡ Equal → x ≡ y
-  added_apart apart added same x y h new e =
-      let of = (gets_from_none (IsOfSome (IsLeftAt g edit) marks) (IsOfSome (IsLeftAt g edit) marks) none items empty (λ z. (λ p. p, λ p. p)) gets x).0 h in
-      apart.added x y ((of.0, of.2.0), of.2.1) of.2.2 (subst (λ (l : List Item). Contains l y) same new) e
-
   pub all_touched : (added new : List Item) → added ≡ edit.added → Gets (Contains added) items new → (x : Item) → Contains new x ↔ IsTouchedItem g marks edit x
   all_touched added new same more =
       gets_from_none (IsTouchedItem g marks edit) (IsTouchedItem g marks edit) none new empty (λ z. (λ p. p, λ p. p))
       (gets_both (IsOfSome (IsLeftAt g edit) marks) (Contains edit.added) none items new gets (subst (λ (l : List Item). Gets (Contains l) items new) same more))
+
+-- ---- in order
+
+-- what is touched is known by its key
+pub touched_known : (g : Graph Item) (edit : Edit) (marks : List ℕ) → AreApart g edit → (items : List Item) → ((x : Item) → Contains items x ↔ IsTouchedItem g marks edit x) → (x y : Item) → Contains items x → Contains items y → item_cmp x y ≡ Equal → x ≡ y
+touched_known g edit marks apart items are x y here there e = by ((are x).0 here) ((are y).0 there)
+  where
+    by : IsTouchedItem g marks edit x → IsTouchedItem g marks edit y → x ≡ y
+    by (inl a) (inl b) = apart.items x y ((a.0, a.2.0), a.2.1) ((b.0, b.2.0), b.2.1) e
+    by (inl a) (inr b) = apart.added x y ((a.0, a.2.0), a.2.1) a.2.2 b e
+    by (inr a) (inl b) = sym (apart.added y x ((b.0, b.2.0), b.2.1) b.2.2 a (flipped x y e))
+    by (inr a) (inr b) = one_by_key edit.added apart.added_order x y a b e
+
+pub rights_known : (g : Graph Item) (marks : List ℕ) (rights : List Item) → ((x : Item) → Contains rights x ↔ IsTouchedRight g marks x) → (x y : Item) → Contains rights x → Contains rights y → item_cmp x y ≡ Equal → x ≡ y
+rights_known g marks rights are x y here there e = one_granted x y (may_is_granted y ((are y).0 there).2.0) e
+
+-- a list that is put in order has the same items
+pub in_order_alike : (P : Item → Type 0) (items sorted kept : List Item) → AreAll (Contains items) sorted → kept ≡ sorted → ((x : Item) → Contains items x ↔ P x) → (x : Item) → Contains kept x ↔ P x
+in_order_alike P items sorted kept all same are x = (
+  λ h. (are x).0 ((all.members x).0 (subst (λ l. Contains l x) same h)),
+  λ h. subst (λ l. Contains l x) (sym same) ((all.members x).1 ((are x).1 h)),
+)

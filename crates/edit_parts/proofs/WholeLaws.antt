@@ -1,24 +1,18 @@
 -- What an edit doesn't touch of a whole catalogue, and which rights are suspects by it.
-use Rattle.std.proofs.Common.{◌≡◌, ◌⊎◌, ◌↔◌, inl, inr, ℕ, ◌<◌, Bool, true, false, List, [], length, get_or, nat_eq, refl, sym, ◌∙◌, subst, arith}
+use Rattle.std.proofs.Common.{◌≡◌, ◌⊎◌, ◌↔◌, inl, inr, ℕ, Bool, true, false, List, nat_eq, refl, subst}
 use Rattle.std.specs.List.{Contains, list_any}
-use Rattle.std.specs.declared.cmp.Ordering.TheVariants.{Equal}
 use Rattle.std.proofs.lemmas.Bool.{cases_Bool}
-use Rattle.finite_chains.proofs.Members.{Contains-nil}
 use Rattle.item_index.specs.Graphs.{Graph, HasKey, IsWhole}
 use Rattle.cat_items.specs.declared.edit.Edit.{Edit}
 use Rattle.cat_items.specs.declared.item.Item.{Item}
 use Rattle.cat_items.specs.Batch.{IsWithout}
 use Rattle.cat_items.specs.Catalogues.{IsInOrder}
-use Rattle.cat_items.specs.Order.{item_cmp}
 use Rattle.cat_items.specs.Survivors.{IsSystemRight}
 use Rattle.edit_rules.proofs.ItemKeys.{only_granted}
 use Rattle.board_graph.specs.BoardKeys.{IsHelper, ghost_key, of_item, of_possible}
 use Rattle.board_steps.specs.Plans.{HasNoHelper, IsFullBoard}
 use Rattle.board_steps.proofs.Holding.{holds}
 use Rattle.board_marks.specs.Marks.{IsMarked}
-use Rattle.topic_keys.specs.Lists.{Gets}
-use Rattle.topic_keys.proofs.Adding.{IsOfFirst, IsOfSome, gets_alike}
-use Rattle.topic_lists.proofs.Runs.{gets_from_none}
 use Rattle.edit_suspects.specs.Helpers.{is_helper, may_be_ghost}
 use Rattle.edit_suspects.specs.Seeds.{HaveSpread, of_added, of_changed, of_target}
 use Rattle.edit_suspects.specs.Seeds as seeds
@@ -26,35 +20,12 @@ use Rattle.edit_suspects.proofs.GhostKeys.{helper_is, possible_is_ghost, possibl
 use Rattle.asked_parts.specs.Parts.{IsPartOf}
 use Rattle.asked_parts.specs.Under as under
 use Rattle.asked_parts.specs.Under.{IsUnmarked}
-use Rattle.asked_parts.proofs.GrowthLaws.{from_take, one_by_key}
 use Rattle.asked_parts.proofs.RoundLaws.{there_or_not}
 use Rattle.asked_parts.proofs.UnderLaws.{marked, not_marked}
 use Rattle.edit_parts.specs.Parts.{AreBoth, IsPossibleSuspect, IsSuspectBy}
 use Rattle.edit_parts.specs.Touched.{IsTouchedItem, IsTouchedRight}
 use Rattle.edit_parts.specs.Whole.{IsTouchedOrFresh, IsUntouched}
 use Rattle.edit_parts.proofs.GhostLaws.{ghost_stands, may_no_helper, own_item}
-
--- ---- the items of a list that aren't among others
-
-module _ (out : List Item) where
-  -- an item that isn't among others
-  abbrev pub IsOther : Item → Item → Type 0
-  IsOther x y = (y ≡ x) × (¬ (Contains out y))
-
-  pub gets_other : (x copy : Item) (old new : List Item) → copy ≡ x → (Contains out x → ⊥) → Gets (λ y. y ≡ copy) old new → Gets (IsOther x) old new
-  gets_other x copy old new is none gets =
-      gets_alike (λ y. y ≡ copy) (IsOther x) old new (λ y. (λ e. (e ∙ is, λ h. none (subst (Contains out) (e ∙ is) h)), λ h. h.0 ∙ sym is)) gets
-
-  -- the next item may be put in
-  pub next_apart : (all none rest : List Item) (i : ℕ) (x : Item) → none ≡ [] → IsInOrder all → i < length all → x ≡ get_or all i x → Gets (IsOfFirst IsOther all i) none rest → (y : Item) → Contains rest y → item_cmp y x ≡ Equal → y ≡ x
-  next_apart all none rest i x empty order low is gets y h e = elim ((gets y).0 h) [
-    | inl before ↦ absurd (Contains-nil y (subst (λ (l : List Item). Contains l y) empty before))
-    | inr of ↦ one_by_key all order y x (subst (Contains all) (sym of.2.0) (from_take i all of.0 (omega (arith, low)) of.1)) (i, low, sym is) e
-  ]
-
-  pub all_others : (all none rest : List Item) → none ≡ [] → Gets (IsOfSome IsOther all) none rest → IsWithout all out rest
-  all_others all none rest empty gets =
-      gets_from_none (IsOfSome IsOther all) (λ y. Contains all y × (¬ (Contains out y))) none rest empty (λ y. (λ h. (subst (Contains all) (sym h.2.0) h.1, h.2.1), λ h. (y, h.0, (refl, h.1)))) gets
 
 -- lists by other names
 pub without_as : (a b out other new : List Item) → a ≡ b → out ≡ other → IsWithout a out new → IsWithout b other new

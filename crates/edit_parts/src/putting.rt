@@ -1,4 +1,4 @@
-//! Items and rights that are put in, each where it isn't there yet.
+//! Items and rights that come to lists.
 
 ghost use Rattle.std.specs.Prelude.{◌≡◌, ◌↔◌, ◌⊎◌, IsTrue, OnOk};
 ghost use Rattle.std.specs.List.{Contains};
@@ -10,8 +10,7 @@ ghost use Rattle.topic_keys.specs.Lists.{Gets};
 ghost use Rattle.edit_parts.specs.Touched as spec;
 
 use crate::possible::right_by_key;
-use cat_items::{Catalogue, Edit, Item, compare_items};
-use edit_rules::put;
+use cat_items::{Edit, Item, compare_items};
 use std::alloc::{AllocError, Global};
 
 /// Whether an item stands in a list in order.
@@ -37,39 +36,44 @@ fn is_taken(edit: &Edit, x: &Item) -> bool
     stands_in(edit.target.as_slice(), x) || stands_in(edit.changed.as_slice(), x)
 }
 
-/// Puts in an item that the edit leaves.
-pub(crate) fn put_left(edit: &Edit, key: &Item, items: &mut Catalogue) -> Result<(), AllocError>
+/// Pushes an item, if the edit leaves it.
+pub(crate) fn push_left(edit: &Edit, key: &Item, items: &mut Vec<Item>) -> Result<(), AllocError>
     requires target_order { IsInOrder edit.now.target }
     requires changed_order { IsInOrder edit.now.changed }
     requires target { (y : Item) → Contains edit.now.target y → item_cmp y key.now ≡ Equal → y ≡ key.now }
     requires changed { (y : Item) → Contains edit.now.changed y → item_cmp y key.now ≡ Equal → y ≡ key.now }
-    requires apart { (y : Item) → Contains items.old.items y → item_cmp y key.now ≡ Equal → y ≡ key.now }
     ensures { OnOk result (Gets (λ x. (x ≡ key.now) × spec.IsLeft edit.now x) items.old.items items.new.items) }
 {
     if is_taken(edit, key) {
         return Ok(());
     }
-    put(items, key.copy()?)
+    items.push(key.copy()?)?;
+    Ok(())
 }
 
-/// Puts in the right by the system whose key this is, or its ghost's.
-pub(crate) fn put_right(alloc: Global, key: &Item, rights: &mut Catalogue) -> Result<(), AllocError>
+/// Pushes the right by the system whose key this is, or its ghost's.
+pub(crate) fn push_right(
+    alloc: Global,
+    key: &Item,
+    rights: &mut Vec<Item>,
+) -> Result<(), AllocError>
     ensures { OnOk result (Gets (spec.IsRightOf key.now) rights.old.items rights.new.items) }
 {
     match right_by_key(alloc, key)? {
         None => Ok(()),
-        Some(right) => put(rights, right),
+        Some(right) => {
+            rights.push(right)?;
+            Ok(())
+        }
     }
 }
 
-/// Puts in each of these items.
-pub(crate) fn put_all(added: &[Item], items: &mut Catalogue) -> Result<(), AllocError>
-    requires order { IsInOrder added.now }
-    requires apart { (x y : Item) → Contains items.old.items x → Contains added.now y → item_cmp x y ≡ Equal → x ≡ y }
+/// Pushes copies of these items.
+pub(crate) fn push_all(added: &[Item], items: &mut Vec<Item>) -> Result<(), AllocError>
     ensures { OnOk result (Gets (Contains added.now) items.old.items items.new.items) }
 {
     for x in added {
-        put(items, x.copy()?)?;
+        items.push(x.copy()?)?;
     }
     Ok(())
 }

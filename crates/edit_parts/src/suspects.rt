@@ -8,7 +8,6 @@ ghost use Rattle.cat_items.specs.contracts.item.ItemPartialEq.TheImpl as same;
 ghost use Rattle.cat_items.specs.declared.item.Item.{Item};
 ghost use Rattle.cat_items.specs.declared.need.Auth.TheVariants as auth;
 ghost use Rattle.finite_chains.specs.Chains.{IsWithin};
-ghost use Rattle.cat_items.specs.Batch.{IsWithout};
 ghost use Rattle.cat_items.specs.Catalogues.{IsInOrder};
 ghost use Rattle.cat_items.specs.Fit.{IsFit};
 ghost use Rattle.cat_items.specs.Good.{IsGood};
@@ -26,13 +25,13 @@ ghost use Rattle.asked_parts.specs.Under.{AreApart, look_ups};
 ghost use Rattle.edit_parts.specs.Parts as spec;
 ghost use Rattle.edit_parts.specs.Touched.{FitsBoard};
 
-use crate::putting::put_all;
 use crate::touched::{TouchedItems, touched_items};
 use asked_parts::{Asked, ask_more, part_of};
 use cat_items::{Auth, Catalogue, Edit, Item, Right, Shared};
 use edit_rules::put;
 use indexmap::IndexSet;
 use item_index::{Index, Steps};
+use item_lists::{merged, without};
 use std::alloc::{AllocError, Global};
 use std::hash::BuildHasher;
 use std::sync::ledger::Ledger;
@@ -146,23 +145,42 @@ pub(crate) fn joined(
     ensures order { IfOk result (λ all. IsInOrder all.items) }
     ensures members { IfOk result (λ all. (x : Item) → Contains all.items x ↔ (Contains items.now.items x ⊎ Contains rights.now.items x)) }
 {
-    let mut all = Catalogue::of_sorted(Vec::new(alloc));
-    put_all(items.items(), &mut all)?;
-    put_all(rights.items(), &mut all)?;
-    let _ = all.items();
+    let all = merged(alloc, items.items(), rights.items())?;
     Ok(all)
 }
 
-/// The items of a list but those of another.
-fn without(alloc: Global, all: &Catalogue, out: &Catalogue) -> Result<Catalogue, AllocError>
-    requires { IsWithin out.now.items all.now.items }
-    ensures order { IfOk result (λ rest. IsInOrder rest.items) }
-    ensures members { IfOk result (λ rest. IsWithout all.now.items out.now.items rest.items) }
+/// The part of the touched items and rights and of all suspects: what further suspects ask for is asked for too, where there are any.
+fn part_of_both<S: BuildHasher + Drop, L: Ledger>(
+    alloc: Global,
+    board: &Index<Item, S>,
+    marks: &IndexSet<usize>,
+    start: &Catalogue,
+    rights: &Catalogue,
+    suspects: &Catalogue,
+    asked: Asked,
+    steps: &mut Steps<L>,
+) -> Result<Catalogue, AllocError>
+    requires granted { (x : Item) → Contains rights.now.items x → IsRightOrRoleGrant x }
+    requires start { (x : Item) → Contains start.now.items x → Contains suspects.now.items x ⊎ Contains rights.now.items x }
+    requires rights { IsWithin rights.now.items start.now.items }
+    requires further { (x : Item) → Contains suspects.now.items x → Contains start.now.items x ⊎ IsRightOrRoleGrant x }
+    requires apart { (all : List Item) → spec.AreBoth suspects.now.items rights.now.items all → AreApart board.now marks.now.keys all }
+    requires asked { HasAskedAll board.now marks.now.keys start.now.items asked.part.items asked.keys.items }
+    ensures rights { IfOk result (λ part. IsWithin rights.now.items part.items) }
+    ensures part { (c : List Item) → HasNoHelper c → IsFullBoard board.now c → IfOk result (λ part. (all : List Item) × spec.AreBoth suspects.now.items rights.now.items all × IsPartOf board.now c marks.now.keys all part.items) }
+    ensures ticks { (all p keys : List Item) → (IsWithin start.now.items all × IsWithin suspects.now.items all) → IsClosed board.now marks.now.keys all p → HasAsked p all keys
+        → steps.new + (length start.now.items + sum_by (look_ups board.now) asked.keys.items) ≤ steps.old + (length all + sum_by (look_ups board.now) keys) }
 {
-    let mut rest = Catalogue::of_sorted(Vec::new(alloc));
-    put_all(all.items(), &mut rest)?;
-    rest.take_out_all(out.items());
-    Ok(rest)
+    let more = without(alloc, suspects.items(), start.items())?;
+    let Asked { mut part, mut keys } = asked;
+    if more.items().is_empty() {
+        return Ok(part);
+    }
+    let all = joined(alloc, suspects, rights)?;
+    ask_more(
+        alloc, board, marks, &all, &more, &mut part, &mut keys, steps,
+    )?;
+    Ok(part)
 }
 
 /// Asks for the further suspects too, and takes out of the part the touched rights that are none.
@@ -186,14 +204,8 @@ fn ask_for_rights<S: BuildHasher + Drop, L: Ledger>(
     ensures ticks { (all p keys : List Item) → (IsWithin start.now.items all × IsWithin suspects.now.items all) → IsClosed board.now marks.now.keys all p → HasAsked p all keys
         → steps.new + (length start.now.items + sum_by (look_ups board.now) asked.keys.items) ≤ steps.old + (length all + sum_by (look_ups board.now) keys) }
 {
-    let _ = start.items();
-    let Asked { mut part, mut keys } = asked;
-    let all = joined(alloc, suspects, rights)?;
-    let more = without(alloc, &all, start)?;
-    ask_more(
-        alloc, board, marks, &all, &more, &mut part, &mut keys, steps,
-    )?;
-    let gone = without(alloc, &all, suspects)?;
+    let mut part = part_of_both(alloc, board, marks, start, rights, suspects, asked, steps)?;
+    let gone = without(alloc, rights.items(), suspects.items())?;
     part.take_out_all(gone.items());
     Ok(part)
 }

@@ -8,7 +8,7 @@ ghost use Rattle.cat_items.specs.declared.item.Item.{Item};
 ghost use Rattle.topic_keys.specs.Lists.{Gets};
 ghost use Rattle.edit_parts.specs.Touched as spec;
 
-use crate::putting::{put_all, put_left, put_right};
+use crate::putting::{push_all, push_left, push_right};
 use asked_parts::is_helper;
 use cat_items::{Catalogue, Edit, Item};
 use indexmap::IndexSet;
@@ -16,6 +16,7 @@ use item_index::{Index, Steps};
 use std::alloc::{AllocError, Global};
 use std::hash::BuildHasher;
 use std::sync::ledger::Ledger;
+use topic_keys::in_order;
 
 /// The items that an edit touches, and the rights by the system.
 #[derive(Drop)]
@@ -26,29 +27,28 @@ pub struct TouchedItems {
     pub rights: Catalogue,
 }
 
-/// Puts in the item of a number, if the edit leaves it, and the right by the system that it is, or the ghost of.
-fn put_marked<S: BuildHasher + Drop, L: Ledger>(
+/// Pushes the item of a number, if the edit leaves it, and the right by the system that it is, or the ghost of.
+fn push_marked<S: BuildHasher + Drop, L: Ledger>(
     alloc: Global,
     board: &Index<Item, S>,
     edit: &Edit,
     number: usize,
-    items: &mut Catalogue,
-    rights: &mut Catalogue,
+    items: &mut Vec<Item>,
+    rights: &mut Vec<Item>,
     steps: &mut Steps<L>,
 ) -> Result<(), AllocError>
     requires node { IsNode board.now number }
     requires apart { spec.AreApart board.now edit.now }
-    requires old { (x : Item) → Contains items.old.items x → spec.IsItem board.now x }
     ensures items { OnOk result (Gets (spec.IsLeftAt board.now edit.now number) items.old.items items.new.items) }
     ensures rights { OnOk result (Gets (spec.IsRightAt board.now number) rights.old.items rights.new.items) }
     ensures ticks { steps.new ≡ steps.old + 1 }
 {
     let key = board.key(number, steps);
-    put_right(alloc, key, rights)?;
+    push_right(alloc, key, rights)?;
     if is_helper(key) {
         return Ok(());
     }
-    put_left(edit, key, items)
+    push_left(edit, key, items)
 }
 
 /// What the marks say of an edit: the items that it touches and leaves or adds, and the rights by the system that it touches. It looks up the
@@ -66,11 +66,14 @@ pub fn touched_items<S: BuildHasher + Drop, L: Ledger>(
     ensures rights { IfOk result (λ touched. (x : Item) → Contains touched.rights.items x ↔ spec.IsTouchedRight board.now marks.now.keys x) }
     ensures ticks { steps.new ≤ steps.old + length marks.now.keys }
 {
-    let mut items = Catalogue::of_sorted(Vec::new(alloc));
-    let mut rights = Catalogue::of_sorted(Vec::new(alloc));
+    let mut items = Vec::new(alloc);
+    let mut rights = Vec::new(alloc);
     for number in marks.as_slice() {
-        put_marked(alloc, board, edit, *number, &mut items, &mut rights, steps)?;
+        push_marked(alloc, board, edit, *number, &mut items, &mut rights, steps)?;
     }
-    put_all(edit.added.as_slice(), &mut items)?;
-    Ok(TouchedItems { items, rights })
+    push_all(edit.added.as_slice(), &mut items)?;
+    Ok(TouchedItems {
+        items: Catalogue::of_sorted(in_order(items)),
+        rights: Catalogue::of_sorted(in_order(rights)),
+    })
 }

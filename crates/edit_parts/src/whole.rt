@@ -1,13 +1,12 @@
 //! The suspects of an edit by the whole catalogue.
 
-ghost use Rattle.std.specs.Prelude.{◌≡◌, ◌↔◌, ◌+◌, ◌≤◌, List, IfOk, OnOk, length, true};
+ghost use Rattle.std.specs.Prelude.{◌≡◌, ◌↔◌, ◌+◌, ◌≤◌, List, IfOk, length, true};
 ghost use Rattle.std.specs.List.{Contains};
 ghost use Rattle.std.specs.declared.cmp.Ordering.TheVariants.{Equal};
 ghost use Rattle.item_index.specs.Graphs.{IsWhole};
 ghost use Rattle.graph_steps.specs.Steps.{AreNodes};
 ghost use Rattle.cat_items.specs.contracts.item.ItemPartialEq.TheImpl as same;
 ghost use Rattle.cat_items.specs.declared.item.Item.{Item};
-ghost use Rattle.cat_items.specs.Batch.{IsWithout};
 ghost use Rattle.cat_items.specs.Catalogues.{IsInOrder};
 ghost use Rattle.cat_items.specs.Fit.{IsFit};
 ghost use Rattle.cat_items.specs.Good.{IsGood};
@@ -15,52 +14,22 @@ ghost use Rattle.cat_items.specs.Order.{item_cmp};
 ghost use Rattle.cat_items.specs.Survivors.{IsWithSystem};
 ghost use Rattle.edit_rules.specs.Chosen.{IsRightOrRoleGrant};
 ghost use Rattle.board_steps.specs.Plans.{IsFullBoard};
-ghost use Rattle.topic_keys.specs.Lists.{Gets};
 ghost use Rattle.edit_suspects.specs.Seeds.{HaveSpread};
 ghost use Rattle.edit_suspects.specs.Suspects.{AreFresh, is_suspect};
 ghost use Rattle.asked_parts.specs.Parts.{IsPartOf};
 ghost use Rattle.edit_parts.specs.Parts.{AreBoth};
 ghost use Rattle.edit_parts.specs.Whole as spec;
 
-use crate::putting::put_all;
 use crate::suspects::{Suspected, joined};
 use crate::touched::{TouchedItems, touched_items};
 use cat_items::{Catalogue, Edit, Item};
-use edit_rules::put;
 use indexmap::IndexSet;
 use item_index::{Index, Steps};
-use new_catalogues::has;
+use item_lists::{merged, without};
 use std::alloc::{AllocError, Global};
 use std::hash::BuildHasher;
 use std::sync::ledger::Ledger;
 use system_rights::system_items;
-
-/// Puts in an item, unless it is among others.
-fn put_other(out: &[Item], x: &Item, rest: &mut Catalogue) -> Result<(), AllocError>
-    requires order { IsInOrder out.now }
-    requires apart { (y : Item) → Contains rest.old.items y → item_cmp y x.now ≡ Equal → y ≡ x.now }
-    ensures { OnOk result (Gets (λ y. (y ≡ x.now) × (¬ (Contains out.now y))) rest.old.items rest.new.items) }
-{
-    if has(out, x) {
-        return Ok(());
-    }
-    put(rest, x.copy()?)
-}
-
-/// Copies of the items of a list that aren't among others.
-fn others(alloc: Global, all: &[Item], out: &[Item]) -> Result<Catalogue, AllocError>
-    requires all_order { IsInOrder all.now }
-    requires out_order { IsInOrder out.now }
-    ensures order { IfOk result (λ rest. IsInOrder rest.items) }
-    ensures members { IfOk result (λ rest. IsWithout all.now out.now rest.items) }
-{
-    let mut rest = Catalogue::of_sorted(Vec::new(alloc));
-    for x in all {
-        put_other(out, x, &mut rest)?;
-    }
-    let _ = rest.items();
-    Ok(rest)
-}
 
 /// Copies of the items of a catalogue that the edit leaves and that aren't touched.
 fn untouched(
@@ -74,9 +43,9 @@ fn untouched(
     ensures order { IfOk result (λ kept. IsInOrder kept.items) }
     ensures members { IfOk result (λ kept. (x : Item) → Contains kept.items x ↔ spec.IsUntouched c.now.items edit.now touched.now.items x) }
 {
-    let standing = others(alloc, c.items(), edit.target.as_slice())?;
-    let left = others(alloc, standing.items(), edit.changed.as_slice())?;
-    let kept = others(alloc, left.items(), touched.items())?;
+    let standing = without(alloc, c.items(), edit.target.as_slice())?;
+    let left = without(alloc, standing.items(), edit.changed.as_slice())?;
+    let kept = without(alloc, left.items(), touched.items())?;
     Ok(kept)
 }
 
@@ -93,10 +62,10 @@ fn touched_or_fresh(
 {
     let before = system_items(alloc, c)?;
     let after = system_items(alloc, part)?;
-    let known = others(alloc, before.as_slice(), rights.items())?;
-    let standing = others(alloc, c.items(), rights.items())?;
-    let unknown = others(alloc, after.as_slice(), known.items())?;
-    let further = others(alloc, unknown.items(), standing.items())?;
+    let known = without(alloc, before.as_slice(), rights.items())?;
+    let standing = without(alloc, c.items(), rights.items())?;
+    let unknown = without(alloc, after.as_slice(), known.items())?;
+    let further = without(alloc, unknown.items(), standing.items())?;
     Ok(further)
 }
 
@@ -106,10 +75,7 @@ fn with_kept(alloc: Global, some: &Catalogue, kept: &Catalogue) -> Result<Catalo
     ensures order { IfOk result (λ part. IsInOrder part.items) }
     ensures members { IfOk result (λ part. AreBoth some.now.items kept.now.items part.items) }
 {
-    let mut part = Catalogue::of_sorted(Vec::new(alloc));
-    put_all(some.items(), &mut part)?;
-    put_all(kept.items(), &mut part)?;
-    let _ = part.items();
+    let part = merged(alloc, kept.items(), some.items())?;
     Ok(part)
 }
 

@@ -1,15 +1,12 @@
 use Rattle.std.proofs.Common.{◌≤◌, ◌+◌}
-use Rattle.std.specs.List.{Contains}
-use Rattle.cat_items.specs.declared.item.Item.{Item}
 use Rattle.topic_keys.specs.Lists.{Gets}
 use Rattle.topic_keys.proofs.Adding.{IsOfFirst}
-use Rattle.edit_parts.specs.Touched.{IsRightAt, IsItem, IsLeftAt}
+use Rattle.edit_parts.specs.Touched.{IsRightAt, IsLeftAt}
 use Rattle.edit_parts.proofs.touched.touched_items.Given as goal
 
 abbrev pub invariant-loop-number : goal.invariant-loop-number
 invariant-loop-number g l = record {
   items : Gets (IsOfFirst (IsLeftAt l.board l.edit) l.marks.keys l.number-index) l.initial.items.items l.items.items;
   rights : Gets (IsOfFirst (IsRightAt l.board) l.marks.keys l.number-index) l.initial.rights.items l.rights.items;
-  old : (x : Item) → Contains l.items.items x → IsItem l.board x;
   ticks : l.steps ≤ l.initial.steps + l.number-index;
 }
