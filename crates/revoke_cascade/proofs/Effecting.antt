@@ -5,7 +5,8 @@ use Rattle.cat_items.specs.declared.edit.Edit.{Edit}
 use Rattle.cat_items.specs.declared.item.Item.{Item}
 use Rattle.edit_rules.specs.Chosen.{AreChosen}
 use Rattle.catalogue_changes.specs.Effects.{AreFallen, AreGained, AreLost}
-use Rattle.revoke_cascade.specs.Effects.{AreGainedOf, AreLostOf, StandsAs}
+use Rattle.item_lists.specs.Walks.{StandsAs}
+use Rattle.revoke_cascade.specs.Effects.{AreGainedOf, AreLostOf}
 use Rattle.revoke_cascade.specs.Prepared.{Tells}
 
 -- ---- what is chosen in turn

@@ -1,14 +1,9 @@
 -- What an edit does beyond what it says, by its suspects and by what was found of them.
-use Rattle.std.specs.Prelude.{Bool, true, false, List}
+use Rattle.std.specs.Prelude.{List}
 use Rattle.std.specs.List.{Contains}
 use Rattle.cat_items.specs.declared.edit.Edit.{Edit}
 use Rattle.cat_items.specs.declared.item.Item.{Item}
 use Rattle.edit_rules.specs.Chosen.{AreChosen}
-
--- the item stands in the list, or it doesn't
-abbrev pub StandsAs : Bool → List Item → Item → Type 0
-StandsAs true items x = Contains items x
-StandsAs false items x = ¬ (Contains items x)
 
 -- of these old items those that the edit leaves and that weren't found
 abbrev pub AreLostOf : List Item → Edit → List Item → List Item → Type 0

@@ -1,45 +1,16 @@
 //! What an edit does beyond what it says, by its suspects and by what was found of them.
 
-ghost use Rattle.std.specs.Prelude.{◌↔◌, IfOk, IsTrue, List, false, true};
+ghost use Rattle.std.specs.Prelude.{IfOk, List};
 ghost use Rattle.cat_items.specs.declared.item.Item.{Item};
 ghost use Rattle.cat_items.specs.Catalogues.{IsInOrder};
 ghost use Rattle.catalogue_changes.specs.Effects.{AreEffects};
-ghost use Rattle.edit_rules.specs.Chosen.{AreChosen};
-ghost use Rattle.revoke_cascade.specs.Effects.{AreGainedOf, AreLostOf, StandsAs};
+ghost use Rattle.revoke_cascade.specs.Effects.{AreGainedOf, AreLostOf};
 ghost use Rattle.revoke_cascade.specs.Prepared.{Tells};
 
 use cat_items::{Catalogue, Edit, Item};
 use catalogue_changes::Effects;
-use new_catalogues::has;
+use item_lists::chosen_as;
 use std::alloc::{AllocError, Global};
-
-/// Whether an item stands in a list, where `there`, or doesn't.
-fn stands_as(there: bool, other: &[Item], x: &Item) -> bool
-    requires { IsInOrder other.now }
-    ensures { IsTrue result ↔ StandsAs there other.now x.now }
-{
-    has(other, x) == there
-}
-
-/// Copies of those of these items that stand in another list, where `there`, or of those that don't.
-fn chosen_as(
-    alloc: Global,
-    items: &[Item],
-    there: bool,
-    other: &[Item],
-) -> Result<Vec<Item>, AllocError>
-    requires items { IsInOrder items.now }
-    requires other { IsInOrder other.now }
-    ensures { IfOk result (λ found. AreChosen items.now (StandsAs there other.now) found.items) }
-{
-    let mut found = Vec::new(alloc);
-    for x in items {
-        if stands_as(there, other, x) {
-            found.push(x.copy()?)?;
-        }
-    }
-    Ok(found)
-}
 
 /// Of these old items those that the edit leaves and that weren't found.
 fn lost_of(
