@@ -5,5 +5,6 @@ pub mod MoreLaws
 pub mod PartLaws
 pub mod RoundLaws
 pub mod SchemaLaws
+pub mod SetLaws
 pub mod TellLaws
 pub mod UnderLaws

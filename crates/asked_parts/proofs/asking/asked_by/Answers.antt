@@ -1,5 +1,6 @@
-use Rattle.std.proofs.Common.{◌≡◌, ◌↔◌, ◌≤◌, inr, ℕ, List, [], length, arith, subst, sym}
+use Rattle.std.proofs.Common.{◌≡◌, ◌↔◌, ◌≤◌, inr, ℕ, List, [], length, arith}
 use Rattle.std.specs.List.{Contains}
+use Rattle.std.proofs.lemmas.Result.{IfOk-weaker}
 use Rattle.cat_items.specs.declared.item.Item.{Item}
 use Rattle.cascade_laws.specs.Topics.{Topic}
 use Rattle.topic_keys.specs.Lists.{Gets, IsKeyWhere}
@@ -32,8 +33,8 @@ loop-x-preserved c = record {
 pub put_asked-requires : goal.put_asked-requires
 put_asked-requires c = c.loop-x.invariant.asked
 
-pub in_order-requires : goal.in_order-requires
-in_order-requires c =
+pub ordered-requires : goal.ordered-requires
+ordered-requires c =
     let part = c.args.part.now.items in
     let suspects = c.args.suspects.now in
     let are = all_asked part suspects c.new-all.result.items c.loop-x.all.items c.loop-x.x-index (omega (arith, c.loop-x-test.false)) c.new-all.ensures.items c.loop-x.invariant.put in
@@ -44,7 +45,5 @@ returns c =
     let part = c.args.part.now.items in
     let suspects = c.args.suspects.now in
     let are = all_asked part suspects c.new-all.result.items c.loop-x.all.items c.loop-x.x-index (omega (arith, c.loop-x-test.false)) c.new-all.ensures.items c.loop-x.invariant.put in
-    λ k. (
-      λ h. (are k).0 ((c.in_order.ensures.members k).0 (subst (λ l. Contains l k) c.of_sorted.ensures.items h)),
-      λ h. subst (λ l. Contains l k) (sym c.of_sorted.ensures.items) ((c.in_order.ensures.members k).1 ((are k).1 h)),
-    )
+    IfOk-weaker c.ordered.result (λ keys. (k : Item) → Contains keys.items k ↔ Contains c.loop-x.all.items k) (λ keys. (k : Item) → Contains keys.items k ↔ IsAskedBy part suspects k)
+    (λ keys h k. (λ there. (are k).0 ((h k).0 there), λ asked. (h k).1 ((are k).1 asked))) c.ordered.ensures
