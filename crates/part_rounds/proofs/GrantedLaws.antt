@@ -1,5 +1,5 @@
 -- What users and roles granted: what searches tell of what it rests on.
-use Rattle.std.proofs.Common.{◌≡◌, ◌≢◌, ◌⊎◌, ◌↔◌, ◌+◌, ◌<◌, ℕ, Bool, true, false, List, [], ◌∷◌, ◌++◌, length, get_or, refl, sym, ap, ◌∙◌, subst, inl, inr, arith}
+use Rattle.std.proofs.Common.{◌≡◌, ◌≢◌, ◌⊎◌, ◌↔◌, ◌+◌, ◌<◌, ◌≤◌, ℕ, Bool, true, false, List, None, [], ◌∷◌, ◌++◌, length, get_or, refl, sym, ap, ◌∙◌, subst, inl, inr, arith}
 use Rattle.std.specs.List.{All, Contains}
 use Rattle.std.specs.List.Sorted.{IsPermutation}
 use Rattle.std.specs.declared.cmp.Ordering.TheVariants.{Less, Equal}
@@ -17,12 +17,13 @@ use Rattle.cat_items.specs.declared.item.Item.{Item}
 use Rattle.cat_items.specs.declared.item.Item.TheVariants as item
 use Rattle.cat_items.specs.Catalogues.{HasKeyAt, IsInOrder}
 use Rattle.cat_items.specs.Order.{item_cmp}
-use Rattle.cat_items.specs.Ranges.{IsGrantOf, IsRoleAuthorization}
+use Rattle.cat_items.specs.Ranges.{IsGrantOf, IsRange, IsRoleAuthorization}
 use Rattle.cat_items.specs.Reach.{GrantsRole, Has, Leads, Reaches}
 use Rattle.cat_items.specs.Rights.{IsAdminFor, IsAuthorization, IsRightFor, Stands}
 use Rattle.cat_items.specs.Supported.{MayGrant, MayGrantRole, RightRests, RoleGrantRests, Supported}
 use Rattle.cat_items.proofs.KeyLemmas.{same_key}
 use Rattle.role_graph.specs.Marked.{marked}
+use Rattle.role_graph.proofs.LoopLemmas.{NoneFrom}
 use Rattle.role_graph.proofs.MarkedLemmas.{Contains-marked, place_of_marked}
 use Rattle.role_graph.proofs.MeetingLemmas.{met_otherwise}
 use Rattle.part_rounds.specs.declared.grantees.GrantOption.{GrantOption}
@@ -31,7 +32,7 @@ use Rattle.part_rounds.specs.declared.grantees.Title.TheVariants as title
 use Rattle.part_rounds.specs.declared.grants.Grant.{Grant}
 use Rattle.part_rounds.specs.declared.grants.Grant.TheVariants as grant
 use Rattle.part_rounds.specs.Grantees.{AreOptions, AreOptionsBelow, HasOptionTo, IsOption, IsOptionAt, IsTitled, titled, unsigned}
-use Rattle.part_rounds.specs.Grants.{IsMade, IsMadeFor, IsNoAdmin, IsOptionFor, IsOptionTo, IsStanding, IsWay, grant_item, grantor_of}
+use Rattle.part_rounds.specs.Grants.{IsMade, IsMadeFor, IsNoAdmin, IsOptionFor, IsOptionTo, IsStanding, IsWay, LeadsOn, grant_item, grantor_of}
 use Rattle.part_rounds.proofs.TitleLaws.{grant_from_key}
 
 -- ---- the list of options
@@ -171,6 +172,18 @@ module _ (items s : List Item) (g : Grant) (by : List ℕ) where
 pub way_lies : (s : List Item) (g : Grant) (by : List ℕ) (y : Item) → IsWay s g by y → IsRoleAuthorization y
 way_lies s g by (item.RoleAuth q) way = tt
 way_lies s g by y way = absurd way
+
+-- it goes by the role alone
+pub way_role : (s : List Item) (g : Grant) (by role : List ℕ) (y : Item) → IsGrantOf role y → IsWay s g by y ↔ LeadsOn s g by role
+way_role s g by role (item.RoleAuth q) is = (λ h. subst (LeadsOn s g by) is h, λ h. subst (LeadsOn s g by) (sym is) h)
+way_role s g by role y is = absurd is
+
+-- the role authorizations of one role more
+pub none_of_role : (items s : List Item) (g : Grant) (by role : List ℕ) (start at from to : ℕ) → IsRange items from to (IsGrantOf role) → (LeadsOn s g by role → ⊥) → from ≤ at → NoneFrom items None (IsWay s g by) start at → NoneFrom items None (IsWay s g by) start to
+none_of_role items s g by role start at from to range not_on low none k d from_start below on way = elim (cases_lt k at) [
+  | inl before ↦ none k d from_start before on way
+  | inr now ↦ not_on ((way_role s g by role (get_or items k d) (range.inside k d (omega (arith, low, now)) below)).0 way)
+]
 
 -- what is marked is in the list
 pub marked_within : (items : List Item) (marks : List Bool) → IsWithin (marked items marks) items

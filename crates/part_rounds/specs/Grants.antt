@@ -47,9 +47,13 @@ abbrev pub IsOptionFor : List Item → Grant → NameBytes → Item → Type 0
 IsOptionFor s (Role g) by x = IsAdminFor s (Named by) (g.now.role ∷ []) x
 IsOptionFor s (Right r) by x = IsRightFor true s (Named by) r.now.need x
 
--- a role authorization whose role has such an option, and is reached from this user or role
+-- a role has such an option, and is reached from this user or role
+abbrev pub LeadsOn : List Item → Grant → NameBytes → NameBytes → Type 0
+LeadsOn s grant by role = Has s (IsOptionTo grant (Named role)) × Reaches s (Named by) (Named role)
+
+-- a role authorization of such a role
 abbrev pub IsWay : List Item → Grant → NameBytes → Item → Type 0
-IsWay s grant by (item.RoleAuth g) = Has s (IsOptionTo grant (Named g.role)) × Reaches s (Named by) (Named g.role)
+IsWay s grant by (item.RoleAuth g) = LeadsOn s grant by g.role
 IsWay s grant by x = ⊥
 
 -- it isn't one of a right to ADMIN

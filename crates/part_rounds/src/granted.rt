@@ -1,9 +1,10 @@
 //! Roles and rights that users and roles granted: what they rest on is found by searches.
 
-ghost use Rattle.std.specs.Prelude.{◌≡◌, ◌↔◌, ◌⊎◌, ◌<◌, All, IsTrue, false, length};
+ghost use Rattle.std.specs.Prelude.{◌≡◌, ◌↔◌, ◌⊎◌, ◌<◌, All, IfNone, IfSome, IsTrue, false, length};
 ghost use Rattle.cat_items.specs.declared.item.Item.TheVariants as item;
 ghost use Rattle.cat_items.specs.declared.need.Auth.TheVariants.{Named, Public};
 ghost use Rattle.cat_items.specs.Order.{item_cmp};
+ghost use Rattle.cat_items.specs.Ranges.{IsGrantOf, IsRoleAuthorization};
 ghost use Rattle.cat_items.specs.Reach.{Has};
 ghost use Rattle.cat_items.specs.Supported.{IsGrantee, Supported};
 ghost use Rattle.role_graph.specs.Judges.{counting};
@@ -12,14 +13,27 @@ ghost use Rattle.role_graph.specs.Roles.{IsRoomFor};
 ghost use Rattle.part_rounds.specs.Grantees.{AreByTitle, AreListed, HasOptionTo};
 ghost use Rattle.part_rounds.specs.Grants as spec;
 
-use crate::grantees::{GrantOption, is_marked_to};
+use crate::grantees::{GrantOption, count_of, is_marked_to};
 use crate::grants::{Grant, Granted};
-use cat_items::{Auth, Catalogue, Item, Marks, Part, Right, RoleGrant, role_authorizations};
+use cat_items::{
+    Auth, Catalogue, Item, Marks, Part, Right, RoleGrant, role_authorizations, role_grants_of,
+};
 use role_graph::{Actor, Judge, Walk};
 use sql_tree::{Action, Name};
 use std::cmp::Ordering;
 
-/// Whether an item is a role authorization whose role has a marked option that lets grant the same, and is reached from a user or role.
+/// The role of a role authorization.
+fn role_in(x: &Item) -> Option<&Name>
+    ensures some { IfSome result (λ role. IsGrantOf role.now x.now) }
+    ensures none { IfNone result (¬ (IsRoleAuthorization x.now)) }
+{
+    match x {
+        Item::RoleAuth(grant) => Some(&grant.get().role),
+        _ => None,
+    }
+}
+
+/// Whether a role has a marked option that lets grant the same, and is reached from a user or role.
 fn is_way(
     c: &Catalogue,
     marks: &Marks,
@@ -27,25 +41,20 @@ fn is_way(
     options: &[GrantOption<'_>],
     grant: Grant<'_>,
     by: &Name,
-    x: &Item,
+    role: &Name,
 ) -> bool
     requires room { IsRoomFor walk.old c.now.items }
     requires marks { length marks.now ≡ length c.now.items }
     requires options { AreListed c.now.items options.now }
-    ensures answer { IsTrue result ↔ spec.IsWay (marked c.now.items marks.now) grant.entry by.now x.now }
+    ensures answer { IsTrue result ↔ spec.LeadsOn (marked c.now.items marks.now) grant.entry by.now role.now }
     ensures room { walk.new ≡ walk.old }
 {
-    match x {
-        Item::RoleAuth(way) => {
-            let role = Actor::Named(&way.get().role);
-            is_marked_to(options, marks, grant, role)
-                && walk.reaches_by(c, Some(marks), Actor::Named(by), role)
-        }
-        _ => false,
-    }
+    let role = Actor::Named(role);
+    is_marked_to(options, marks, grant, role)
+        && walk.reaches_by(c, Some(marks), Actor::Named(by), role)
 }
 
-/// Whether a user or role reaches a role that has a marked option that lets grant the same.
+/// Whether a user or role reaches a role that has a marked option that lets grant the same. Each role that is granted to anybody is tried once.
 fn has_way(
     c: &Catalogue,
     marks: &Marks,
@@ -62,10 +71,15 @@ fn has_way(
 {
     let items = c.items();
     let all = role_authorizations(c);
-    for at in all.start..all.end {
-        if is_way(c, marks, walk, options, grant, by, &items[at]) {
+    let mut at = all.start;
+    while at < all.end {
+        let Some(role) = role_in(&items[at]) else {
+            return false;
+        };
+        if is_way(c, marks, walk, options, grant, by, role) {
             return true;
         }
+        at = role_grants_of(c, role).end;
     }
     false
 }
@@ -78,6 +92,23 @@ fn is_open(options: &[GrantOption<'_>], marks: &Marks, grant: Grant<'_>, by: &Na
 {
     is_marked_to(options, marks, grant, Actor::Named(by))
         || is_marked_to(options, marks, grant, Actor::Public)
+}
+
+/// Up to how many options that let grant the same are gone through one by one.
+const FEW: usize = 8;
+
+/// Whether what a user or a role granted is best tried by searches: where who made the grant has no marked option and there are only a few, going
+/// through these is less than trying each role that is granted to anybody.
+pub fn is_best_sought(
+    c: &Catalogue,
+    marks: &Marks,
+    options: &[GrantOption<'_>],
+    x: Granted<'_>,
+) -> bool
+    requires marks { length marks.now ≡ length c.now.items }
+    requires options { AreListed c.now.items options.now }
+{
+    count_of(options, x.grant) > FEW || is_open(options, marks, x.grant, x.by)
 }
 
 /// Whether a user or role reaches one who has a marked option that lets grant the same.

@@ -146,3 +146,20 @@ pub fn is_marked_to(
         None => false,
     }
 }
+
+/// Compares a title with those of the options that let grant the same.
+fn compare_subject(title: Title<'_>, grant: Grant<'_>) -> Ordering {
+    match (title, grant) {
+        (Title::Role(role, _), Grant::Role(grant)) => role.cmp(&grant.role),
+        (Title::Right(need, _), Grant::Right(right)) => need.cmp(&right.need),
+        (Title::Role(_, _), _) => Ordering::Less,
+        _ => Ordering::Greater,
+    }
+}
+
+/// How many options let grant the same, whomever they are granted to.
+pub fn count_of(options: &[GrantOption<'_>], grant: Grant<'_>) -> usize {
+    let start = options.partition_point(|option| compare_subject(option.title, grant).is_lt());
+    let end = options.partition_point(|option| compare_subject(option.title, grant).is_le());
+    end.saturating_sub(start)
+}

@@ -12,7 +12,7 @@ ghost use Rattle.role_graph.specs.Roles.{IsRoomFor};
 ghost use Rattle.part_rounds.specs.Grantees.{AreListed};
 ghost use Rattle.part_rounds.specs.Options as spec;
 
-use crate::granted::{granted_told, is_made};
+use crate::granted::{granted_told, is_best_sought, is_made};
 use crate::grantees::GrantOption;
 use crate::grants::{Grant, granted_in};
 use cat_items::{Auth, Catalogue, Item, Marks, Right};
@@ -163,8 +163,10 @@ fn told_alone(
     ensures room { walk.new ≡ walk.old }
 {
     match granted_in(x) {
-        Some(granted) => granted_told(c, marks, walk, options, granted),
-        None => supported(c, marks, walk, x),
+        Some(granted) if is_best_sought(c, marks, options, granted) => {
+            granted_told(c, marks, walk, options, granted)
+        }
+        _ => supported(c, marks, walk, x),
     }
 }
 
