@@ -6,7 +6,7 @@ use Rattle.std.specs.Ordering.{ordering_reverse}
 use Rattle.std.specs.declared.cmp.Ordering.TheVariants.{Less, Equal, Greater}
 use Rattle.std.proofs.Math.Bool.{beq}
 use Rattle.std.proofs.lemmas.Bool.{cases_lt}
-use Rattle.std.proofs.lemmas.List.{get_or_default, get_or-drop, length-drop, take-append-drop}
+use Rattle.std.proofs.lemmas.List.{get_or_default, get_or-drop, get_or-take, length-drop, length-take-le, take-append-drop}
 use Rattle.finite_chains.specs.StrictOrder.{IsRising}
 use Rattle.cat_items.specs.declared.item.Item.{Item}
 use Rattle.cat_items.specs.Catalogues.{HasKeyAt, IsInOrder}
@@ -40,11 +40,12 @@ module _ (items : List Item) (x : Item) where
     at_place : (P : Item → Type 0) (k : ℕ) (d : Item) → k ≡ from → P y → P (get_or items k d)
     at_place P k d same so = subst (λ n. P (get_or items n d)) (sym same) (subst P (is ∙ get_or_default items from y d low) so)
 
-    pub one_more_before : item_cmp y x ≡ Less → AreBefore items from x → AreBefore items (from + 1) x
-    one_more_before less old = record {
+    -- where this item comes before x, so do all before it
+    pub before_to : IsInOrder items → item_cmp y x ≡ Less → AreBefore items (from + 1) x
+    before_to order less = record {
       within = omega (arith, low);
       before = λ k d below. elim (cases_lt k from) [
-        | inl early ↦ old.before k d early
+        | inl early ↦ item_cmp-total.trans (get_or items k d) (get_or items from d) x (order k from d early low) (at_place (λ z. item_cmp z x ≡ Less) from d refl less)
         | inr here ↦ at_place (λ z. item_cmp z x ≡ Less) k d (omega (arith, below, here)) less
       ];
     }
@@ -52,14 +53,15 @@ module _ (items : List Item) (x : Item) where
     pub key_here : item_cmp y x ≡ Equal → HasKeyAt items from x
     key_here equal = (low, λ d. at_place (λ z. item_cmp z x ≡ Equal) from d refl equal)
 
+    -- where this item comes behind x, so do all behind it
+    pub behind_from : IsInOrder items → item_cmp y x ≡ Greater → (k : ℕ) (d : Item) → from ≤ k → k < length items → item_cmp (get_or items k d) x ≡ Greater
+    behind_from order greater k d above high = elim (cases_lt from k) [
+      | inl later ↦ behind_more x (get_or items from d) (get_or items k d) (at_place (λ z. item_cmp z x ≡ Greater) from d refl greater) (order from k d later high)
+      | inr here ↦ at_place (λ z. item_cmp z x ≡ Greater) k d (omega (arith, above, here)) greater
+    ]
+
     pub gap_here : IsInOrder items → item_cmp y x ≡ Greater → AreBefore items from x → IsGap items from x
-    gap_here order greater front = record {
-      front = front;
-      behind = λ k d above high. elim (cases_lt from k) [
-        | inl later ↦ behind_more x (get_or items from d) (get_or items k d) (at_place (λ z. item_cmp z x ≡ Greater) from d refl greater) (order from k d later high)
-        | inr here ↦ at_place (λ z. item_cmp z x ≡ Greater) k d (omega (arith, above, here)) greater
-      ];
-    }
+    gap_here order greater front = record { front = front; behind = behind_from order greater }
 
   pub gap_at_end : (from : ℕ) → length items ≤ from → AreBefore items from x → IsGap items from x
   gap_at_end from end front = record { front = front; behind = λ k d above high. absurd (omega (arith, end, above, high)) }
@@ -103,6 +105,31 @@ module _ (items : List Item) (x : Item) where
   pub gap_from : (rest : List Item) (from gap : ℕ) → rest ≡ drop from items → IsInOrder items → AreBefore items from x → gap ≤ length rest → IsBinarySearchResult (λ y. item_cmp y x) rest (Err gap) → IsGap items (from + gap) x
   gap_from rest from gap is order front =
       subst (λ l. gap ≤ length l → IsBinarySearchResult (λ y. item_cmp y x) l (Err gap) → IsGap items (from + gap) x) (sym is) (gap_behind from gap order front)
+
+  -- ---- a search of a front, behind which all items come behind x
+
+  module _ (to : ℕ) (within : to ≤ length items) where
+    front_length : length (take to items) ≡ to
+    front_length = length-take-le to items within
+
+    pub key_in_front : (at : ℕ) → HasKeyAt (take to items) at x → HasKeyAt items at x
+    key_in_front at has =
+        let low : at < to = omega (arith, has.0, front_length) in
+        (omega (arith, low, within), λ d. subst (λ z. item_cmp z x ≡ Equal) (get_or-take to items at d low) (has.1 d))
+
+    pub gap_in_front : ((k : ℕ) (d : Item) → to ≤ k → k < length items → item_cmp (get_or items k d) x ≡ Greater) → (gap : ℕ) → IsGap (take to items) gap x → IsGap items gap x
+    gap_in_front rest gap gone =
+        let low : gap ≤ to = omega (arith, gone.front.within, front_length) in
+        record {
+          front = record {
+            within = omega (arith, low, within);
+            before = λ k d below. subst (λ z. item_cmp z x ≡ Less) (get_or-take to items k d (omega (arith, below, low))) (gone.front.before k d below);
+          };
+          behind = λ k d above high. elim (cases_lt k to) [
+            | inl early ↦ subst (λ z. item_cmp z x ≡ Greater) (get_or-take to items k d early) (gone.behind k d above (omega (arith, early, front_length)))
+            | inr late ↦ rest k d late high
+          ];
+        }
 
   -- ---- what the walk tells of x
 

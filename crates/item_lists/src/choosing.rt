@@ -12,8 +12,8 @@ use std::alloc::{AllocError, Global};
 
 /// Copies of those of these items that stand in another list, where `there`, or of those that don't. `Err` is want of memory.
 ///
-/// It walks along both lists: an item takes one comparison where it doesn't come behind the next of the other list, and else one more than
-/// a search of what is left of it.
+/// It walks along both lists: an item takes one comparison where it doesn't come behind the next of the other list, and else some two for each
+/// doubling of the way that it goes along that list.
 pub fn chosen_as(
     alloc: Global,
     items: &[Item],

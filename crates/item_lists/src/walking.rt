@@ -12,8 +12,8 @@ ghost use Rattle.item_lists.specs.Walks.{AreBefore, IsGap};
 use cat_items::{Item, compare_items, same_item};
 use std::cmp::Ordering;
 
-/// The place of the key of `x`, or the one where it would stand, where all items before `from` come before it: a search of the others.
-fn search_from(items: &[Item], from: usize, x: &Item) -> Result<usize, usize>
+/// The place of the key of `x`, or the one where it would stand, where all items before `from` come before it: a search of all the others.
+fn search_rest(items: &[Item], from: usize, x: &Item) -> Result<usize, usize>
     requires order { IsInOrder items.now }
     requires before { AreBefore items.now from x.now }
     ensures place { MatchResult result (λ at. HasKeyAt items.now at x.now) (λ gap. IsGap items.now gap x.now) }
@@ -23,6 +23,30 @@ fn search_from(items: &[Item], from: usize, x: &Item) -> Result<usize, usize>
         Ok(at) => Ok(from + at),
         Err(gap) => Err(from + gap),
     }
+}
+
+/// What `search_rest` finds. It looks twice as far ahead each time, until an item doesn't come before `x`, and searches what is before that one
+/// and behind the last that did: so it takes some two comparisons for each doubling of the way that it goes.
+fn search_from(items: &[Item], from: usize, x: &Item) -> Result<usize, usize>
+    requires order { IsInOrder items.now }
+    requires before { AreBefore items.now from x.now }
+    ensures place { MatchResult result (λ at. HasKeyAt items.now at x.now) (λ gap. IsGap items.now gap x.now) }
+    ensures from { MatchResult result (λ at. from ≤ at) (λ gap. from ≤ gap) }
+{
+    let mut low = from;
+    let mut reach = 0;
+    while reach < items.len() - low {
+        let high = low + reach;
+        match compare_items(&items[high], x) {
+            Ordering::Equal => return Ok(high),
+            Ordering::Greater => return search_rest(&items[..high], low, x),
+            Ordering::Less => {
+                low = high + 1;
+                reach += reach + 1;
+            }
+        }
+    }
+    search_rest(items, low, x)
 }
 
 /// What `search_from` finds; the item at `from` is looked at first, since it often decides.

@@ -1,22 +1,24 @@
-use Rattle.std.proofs.Common.{arith, length, rules}
-use Rattle.std.proofs.lemmas.Fn.{always_returns_same}
-use Rattle.std.proofs.lemmas.Slice.{between_to_end}
-use Rattle.cat_items.specs.Order.{item_cmp}
-use Rattle.item_lists.proofs.Steps.{gap_from, key_from}
+use Rattle.std.proofs.Common.{◌+◌, ◌<◌, ◌∙◌, arith, length, sym}
+use Rattle.std.proofs.lemmas.Result.{MatchResult-weaker}
+use Rattle.item_lists.proofs.Steps.{before_to, behind_from, gap_in_front, key_in_front}
 use Rattle.item_lists.proofs.walking.search_from.Goals as goal
 
-pub returns-in-Ok-clause-place : goal.returns-in-Ok-clause-place
-returns-in-Ok-clause-place c =
+pub returns-in-Greater-clause-place : goal.returns-in-Greater-clause-place
+returns-in-Greater-clause-place c =
     let items = c.args.items.now in
-    let from = c.args.from in
     let x = c.args.x.now in
-    let equal = c.in-Ok.ensures.position (λ y. item_cmp y x) (always_returns_same _ _ _ (λ a r g called. (search rules, search rules))) in
-    key_from items x _ from c.in-Ok.at (between_to_end items from (length items) (omega arith)) c.in-Ok.ensures.bound equal
+    let high = c.loop-reach.low + c.loop-reach.reach in
+    let low : high < length items = omega arith in
+    let behind = behind_from items x high c.index-items-high.result low c.index-items-high.is c.requires.order (sym c.compare_items.ensures ∙ c.in-Greater.is) in
+    MatchResult-weaker c.search_rest.result c.search_rest.ensures.place (key_in_front items x high (omega arith)) (gap_in_front items x high (omega arith) behind)
 
-pub returns-in-Err-clause-place : goal.returns-in-Err-clause-place
-returns-in-Err-clause-place c =
+pub loop-reach-preserved : goal.loop-reach-preserved
+loop-reach-preserved c =
     let items = c.args.items.now in
-    let from = c.args.from in
-    let x = c.args.x.now in
-    let parted = c.in-Err.ensures.position (λ y. item_cmp y x) (always_returns_same _ _ _ (λ a r g called. (search rules, search rules))) in
-    gap_from items x _ from c.in-Err.gap (between_to_end items from (length items) (omega arith)) c.requires.order c.requires.before c.in-Err.ensures.bound parted
+    let high = c.loop-reach.low + c.loop-reach.reach in
+    let low : high < length items = omega arith in
+    record {
+      before = before_to items c.args.x.now high c.index-items-high.result low c.index-items-high.is c.requires.order (sym c.compare_items.ensures ∙ c.in-Less.is);
+      from = omega arith;
+      reach = omega arith;
+    }
