@@ -7,3 +7,4 @@ mod walking;
 
 pub use choosing::{chosen_as, without};
 pub use merging::merged;
+pub use walking::stands_from;

@@ -66,8 +66,10 @@ pub(crate) fn place_from(items: &[Item], from: usize, x: &Item) -> Result<usize,
     }
 }
 
-/// Whether `x` stands in a list in order, where all items before `from` come before it. `from` goes behind all that don't come behind `x`.
-pub(crate) fn stands_from(items: &[Item], from: &mut usize, x: &Item) -> bool
+/// Whether `x` stands in a list in order, with all its fields, where all items before `from` come before it: one step of a walk along the list by
+/// items that rise. `from` goes behind all that don't come behind `x`, so that the next one can begin there. Between two items that are near to
+/// each other in the list it takes a few comparisons, and else some two for each doubling of the way.
+pub fn stands_from(items: &[Item], from: &mut usize, x: &Item) -> bool
     requires order { IsInOrder items.now }
     requires before { AreBefore items.now from.old x.now }
     ensures stands { IsTrue result ↔ Contains items.now x.now }
