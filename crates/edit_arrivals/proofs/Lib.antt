@@ -1,3 +1,4 @@
 pub mod Standing
 pub mod Options
 pub mod Steps
+pub mod Walking

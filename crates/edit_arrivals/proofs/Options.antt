@@ -1,5 +1,5 @@
 -- What is found in lists in order, and keys.
-use Rattle.std.proofs.Common.{◌≡◌, List, Option, Some, None, refl, sym, subst, ap}
+use Rattle.std.proofs.Common.{◌≡◌, ◌⊎◌, inl, inr, List, Option, Some, None, refl, sym, subst, ap}
 use Rattle.std.specs.List.{Contains}
 use Rattle.cat_items.specs.declared.item.Item.{Item}
 use Rattle.cat_items.specs.declared.item.Item.TheVariants as item
@@ -59,6 +59,12 @@ role_option g y = (λ e. subst (IsRoleAuth g) (some_is (item.RoleAuth g) y e) re
 
 pub no_option : (P : Item → Type 0) → ((y : Item) → ¬ (P y)) → IsTheOne P None
 no_option P none y = (λ e. absurd (none_is y e), λ p. absurd (none y p))
+
+-- which items are options, and what they add to
+pub option_is : (x y : Item) → IsOptionOn x y → ((r : Right) × (x ≡ item.Grantable r) × (y ≡ item.Held r)) ⊎ ((g : RoleGrant) × (x ≡ item.RoleAdmin g) × (y ≡ item.RoleAuth g))
+option_is (item.Grantable r) y is = inl (r, refl, sym (some_is (item.Held r) y ((held_option r y).1 is)))
+option_is (item.RoleAdmin g) y is = inr (g, refl, sym (some_is (item.RoleAuth g) y ((role_option g y).1 is)))
+option_is _ y is = absurd is
 
 -- an option adds to what stands under its topic
 option_topic : (x y : Item) → IsOptionOn x y → (t : Topic) × IsOptionTopic x t × IsUnder t y

@@ -1,8 +1,10 @@
 //! What arrives with an edit, suspect by suspect.
 
 ghost use Rattle.std.specs.Prelude.{◌≡◌, IfOk, OnOk, List, Bool, true};
+ghost use Rattle.std.specs.declared.cmp.Ordering.TheVariants.{Less};
 ghost use Rattle.cat_items.specs.declared.edit.Edit.{Edit};
 ghost use Rattle.cat_items.specs.declared.item.Item.{Item};
+ghost use Rattle.cat_items.specs.Order.{item_cmp};
 ghost use Rattle.edit_rules.specs.Chosen.{AreChosen};
 ghost use Rattle.board_graph.specs.BoardKeys.{IsKeyOf};
 ghost use Rattle.board_plans.specs.Planning.{AreArrivals, IsArrivalOf};
@@ -10,7 +12,7 @@ ghost use Rattle.board_steps.specs.Plans.{HasNoHelper};
 ghost use Rattle.edit_arrivals.specs.Steps as steps;
 ghost use Rattle.edit_arrivals.specs.Suspects as spec;
 
-use crate::keys::{added_to, key_in};
+use crate::keys::{Passed, added_to, next_key};
 use board_plans::Arrival;
 use cat_items::{Catalogue, Item};
 use std::alloc::{AllocError, Global};
@@ -18,23 +20,34 @@ use system_rights::system_items;
 use topic_keys::homes;
 use topic_lists::topics;
 
+/// Walks along what was found and along the rights that the system could grant, by suspects that rise: for their keys, and for those of what
+/// their options add to, which rise with them.
+#[derive(Clone, Copy)]
+struct Walks {
+    keys: Passed,
+    options: Passed,
+}
+
 /// What arrives with an item of this key.
 fn arrival_of(
     alloc: Global,
     found: &Catalogue,
     rights: &[Item],
+    passed: &mut Passed,
     x: &Item,
     key: Item,
 ) -> Result<Arrival, AllocError>
     requires rights { steps.AreSystemRights found.now.items rights.now }
+    requires passed { steps.IsOptionBehind found.now.items rights.now passed.old x.now }
     requires key { IsKeyOf found.now.items x.now key }
-    ensures { IfOk result (λ arrival. IsArrivalOf found.now.items x.now arrival) }
+    ensures arrival { IfOk result (λ arrival. IsArrivalOf found.now.items x.now arrival) }
+    ensures passed { OnOk result ((y : Item) → item_cmp x.now y ≡ Less → steps.IsOptionBehind found.now.items rights.now passed.old y → steps.IsOptionBehind found.now.items rights.now passed.new y) }
 {
     Ok(Arrival {
         key,
         depends_on: topics(alloc, found, x)?,
         stands_under: homes(alloc, x)?,
-        adds_to: added_to(alloc, found, rights, x)?,
+        adds_to: added_to(alloc, found, rights, passed, x)?,
     })
 }
 
@@ -43,16 +56,19 @@ fn put_arrival(
     alloc: Global,
     found: &Catalogue,
     rights: &[Item],
+    walks: &mut Walks,
     x: &Item,
     arrivals: &mut Vec<Arrival>,
 ) -> Result<(), AllocError>
-    requires { steps.AreSystemRights found.now.items rights.now }
-    ensures { OnOk result (steps.IsPutBehind found.now.items x.now arrivals.old.items arrivals.new.items) }
+    requires rights { steps.AreSystemRights found.now.items rights.now }
+    requires ahead { steps.IsAhead found.now.items rights.now walks.old x.now }
+    ensures put { OnOk result (steps.IsPutBehind found.now.items x.now arrivals.old.items arrivals.new.items) }
+    ensures ahead { OnOk result ((y : Item) → item_cmp x.now y ≡ Less → steps.IsAhead found.now.items rights.now walks.old y → steps.IsAhead found.now.items rights.now walks.new y) }
 {
-    match key_in(alloc, found, rights, x)? {
+    match next_key(alloc, found, rights, &mut walks.keys, x)? {
         None => Ok(()),
         Some(key) => {
-            let arrival = arrival_of(alloc, found, rights, x, key)?;
+            let arrival = arrival_of(alloc, found, rights, &mut walks.options, x, key)?;
             arrivals.push(arrival)?;
             Ok(())
         }
@@ -72,9 +88,24 @@ pub fn arrivals(
         → AreChosen f (λ x. suspect x ≡ true) suspects.now.items → AreArrivals standing suspect arrivals.items) }
 {
     let rights = system_items(alloc, found)?;
+    let start = Passed {
+        found: 0,
+        rights: 0,
+    };
+    let mut walks = Walks {
+        keys: start,
+        options: start,
+    };
     let mut arrivals = Vec::new(alloc);
     for x in suspects.items() {
-        put_arrival(alloc, found, rights.as_slice(), x, &mut arrivals)?;
+        put_arrival(
+            alloc,
+            found,
+            rights.as_slice(),
+            &mut walks,
+            x,
+            &mut arrivals,
+        )?;
     }
     Ok(arrivals)
 }

@@ -1,55 +1,13 @@
 -- Which items of a part are no suspects, place by place.
-use Rattle.std.proofs.Common.{◌≡◌, ◌⊎◌, ◌↔◌, inl, inr, ℕ, ◌+◌, ◌<◌, ◌≤◌, Bool, true, false, cond, not, List, [], ◌∷◌, Option, Some, None, length, get_or, set, sym, ◌∙◌, ap, subst, refl, arith, replicate, below_more, get_or-set_other}
+use Rattle.std.proofs.Common.{◌≡◌, ◌↔◌, ℕ, ◌+◌, ◌<◌, ◌≤◌, Bool, true, false, cond, List, length, get_or, set, sym, ◌∙◌, ap, subst, refl, arith, replicate, below_more, get_or-set_other}
 use Rattle.std.specs.List.{Contains}
-use Rattle.std.specs.Option.{is_some, IfSome, IfNone}
-use Rattle.std.specs.declared.cmp.Ordering.TheVariants.{Less, Equal}
 use Rattle.std.proofs.lemmas.Bool.{both_ways}
 use Rattle.std.proofs.lemmas.List.{get_or-set_same, get_or-replicate, get_or_default, length-replicate}
 use Rattle.std.proofs.Math.ListN.{length-set}
-use Rattle.finite_chains.specs.Chains.{IsWithin}
-use Rattle.finite_chains.specs.StrictOrder.{IsRising}
-use Rattle.finite_chains.proofs.Members.{Contains-nil, Contains-cases}
 use Rattle.cat_items.specs.declared.item.Item.{Item}
-use Rattle.cat_items.specs.Catalogues.{IsInOrder, HasKeyAt}
-use Rattle.cat_items.specs.Order.{item_cmp}
-use Rattle.cat_items.proofs.CatalogueLemmas.{rising, no_equal}
-use Rattle.cat_items.proofs.OrderLemmas.{item_cmp-total}
-use Rattle.cat_items.proofs.KeyLemmas.{same_key}
 use Rattle.role_graph.specs.Marked.{marked}
 use Rattle.role_graph.proofs.MarkedLemmas.{Contains-marked, place_of_marked}
 use Rattle.part_rescue.specs.Rescued.{AreUnsuspected}
-
--- ---- one item
-
-one_rising : (xs : List Item) → IsRising item_cmp xs → (x y : Item) → Contains xs x → Contains xs y → item_cmp x y ≡ Equal → x ≡ y
-one_rising [] r x y p q e = absurd (Contains-nil x p)
-one_rising (z ∷ xs) r x y p q e = by (Contains-cases z xs x p) (Contains-cases z xs y q) (λ h k. one_rising xs r.1 x y h k e)
-  where
-    by : (z ≡ x) ⊎ Contains xs x → (z ≡ y) ⊎ Contains xs y → (Contains xs x → Contains xs y → x ≡ y) → x ≡ y
-    by (inl f) (inl g) more = sym f ∙ g
-    by (inl f) (inr h) more = let less : item_cmp x y ≡ Less = subst (λ w. item_cmp w y ≡ Less) f (r.0 y h) in cc
-    by (inr h) (inl g) more = let less : item_cmp y x ≡ Less = subst (λ w. item_cmp w x ≡ Less) g (r.0 x h) in let back = item_cmp-total.antisymm x y in cc
-    by (inr h) (inr k) more = more h k
-
--- where a suspect has the key of an item of the part, it is that item
-pub found_suspect : (suspects part : List Item) (x : Item) (k : ℕ) → IsInOrder part → IsWithin suspects part → Contains part x → HasKeyAt suspects k x → Contains suspects x
-found_suspect suspects part x k order within h at =
-    let y : Item = get_or suspects k x in
-    let there : Contains suspects y = (k, at.0, get_or_default suspects k y x at.0) in
-    subst (λ z. Contains suspects z) (one_rising part (rising part order) y x (within y there) h (at.1 x)) there
-
-pub found_none : (suspects : List Item) (x : Item) → ((k : ℕ) → HasKeyAt suspects k x → ⊥) → ¬ (Contains suspects x)
-found_none suspects x none h = no_equal suspects x none x h (same_key x)
-
--- what a look-up tells
-pub told : (suspects part : List Item) (x : Item) (found : Option ℕ) (none : Bool) → IsInOrder part → IsWithin suspects part → Contains part x → IfSome found (λ k. HasKeyAt suspects k x) → IfNone found ((k : ℕ) → HasKeyAt suspects k x → ⊥)
-    → is_some found ≡ not none → (none ≡ true) ↔ (¬ (Contains suspects x))
-told suspects part x (Some k) false order within h some n e = (λ t. absurd (both_ways false refl t), λ other. absurd (other (found_suspect suspects part x k order within h some)))
-told suspects part x (Some k) true order within h some n e = absurd (both_ways true e refl)
-told suspects part x None true order within h some n e = (λ t. found_none suspects x n, λ other. refl)
-told suspects part x None false order within h some n e = absurd (both_ways false refl e)
-
--- ---- all of them
 
 -- the places below k were gone through
 pub record IsClearTo (suspects part : List Item) (marks : List Bool) (k : ℕ) : Type 0 where
@@ -83,14 +41,15 @@ clear_left suspects part m k low is one = record {
   above = λ j from inside. is.above j (omega (arith, from)) inside;
 }
 
--- an item of the part is tried
-pub clear_goes : (suspects part : List Item) (m new : List Bool) (k : ℕ) (clear : Bool) (x : Item) → k < length part → x ≡ get_or part k x → IsClearTo suspects part m k → ((clear ≡ true) ↔ (¬ (Contains suspects x))) → new ≡ cond clear (set m k true) m
+-- an item of the part is looked for among the suspects
+pub clear_goes : (suspects part : List Item) (m new : List Bool) (k : ℕ) (stands : Bool) (x : Item) → k < length part → x ≡ get_or part k x → IsClearTo suspects part m k → ((stands ≡ true) ↔ Contains suspects x) → new ≡ cond stands m (set m k true)
     → IsClearTo suspects part new (k + 1)
 clear_goes suspects part m new k true x low at is test e =
-    subst (λ z. IsClearTo suspects part z (k + 1)) (sym e) (clear_put suspects part m k low is (λ d. subst (λ z. ¬ (Contains suspects z)) (at ∙ get_or_default part k x d low) (test.0 refl)))
+    subst (λ z. IsClearTo suspects part z (k + 1)) (sym e)
+    (clear_left suspects part m k low is (λ d other. other (subst (λ z. Contains suspects z) (at ∙ get_or_default part k x d low) (test.0 refl))))
 clear_goes suspects part m new k false x low at is test e =
     subst (λ z. IsClearTo suspects part z (k + 1)) (sym e)
-    (clear_left suspects part m k low is (λ d other. both_ways false refl (test.1 (subst (λ z. ¬ (Contains suspects z)) (sym (at ∙ get_or_default part k x d low)) other))))
+    (clear_put suspects part m k low is (λ d h. both_ways false refl (test.1 (subst (λ z. Contains suspects z) (sym (at ∙ get_or_default part k x d low)) h))))
 
 pub clear_ends : (suspects part : List Item) (m : List Bool) (k : ℕ) → length part ≤ k → IsClearTo suspects part m k → AreUnsuspected suspects part m
 clear_ends suspects part m k all is = record {

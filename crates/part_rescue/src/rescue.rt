@@ -1,36 +1,28 @@
 //! The rescue of suspects.
 
-ghost use Rattle.std.specs.Prelude.{◌≡◌, ◌↔◌, Contains, IfOk, IsTrue, length};
+ghost use Rattle.std.specs.Prelude.{◌≡◌, IfOk, length};
 ghost use Rattle.finite_chains.specs.Chains.{IsWithin};
 ghost use Rattle.cat_items.specs.Catalogues.{IsInOrder};
 ghost use Rattle.role_graph.specs.Marked.{marked};
 ghost use Rattle.role_graph.specs.Roles.{IsRoomFor};
 ghost use Rattle.part_rescue.specs.Rescued.{AreUnsuspected, AreRescued};
 
-use cat_items::{Catalogue, Item, Marks, find};
+use cat_items::{Catalogue, Item, Marks};
+use item_lists::stands_from;
 use part_rounds::mark_supported;
 use role_graph::Walk;
 use std::alloc::{AllocError, Global};
 
-/// Whether an item of the part is no suspect.
-fn is_clear(part: &Catalogue, suspects: &Catalogue, x: &Item) -> bool
-    requires suspects { IsWithin suspects.now.items part.now.items }
-    requires there { Contains part.now.items x.now }
-    ensures { IsTrue result ↔ (¬ (Contains suspects.now.items x.now)) }
-{
-    let _ = part.items();
-    find(suspects, x).is_none()
-}
-
-/// Marks the items of the part that are no suspects.
+/// Marks the items of the part that are no suspects, in one walk along both lists.
 fn clear(alloc: Global, part: &Catalogue, suspects: &Catalogue) -> Result<Marks, AllocError>
-    requires { IsWithin suspects.now.items part.now.items }
     ensures { IfOk result (λ marks. AreUnsuspected suspects.now.items part.now.items marks) }
 {
     let items = part.items();
+    let listed = suspects.items();
     let mut marks = Marks::new(alloc, part)?;
+    let mut from = 0;
     for at in 0..items.len() {
-        if is_clear(part, suspects, &items[at]) {
+        if !stands_from(listed, &mut from, &items[at]) {
             marks.mark(at);
         }
     }
