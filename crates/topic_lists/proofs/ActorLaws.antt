@@ -61,7 +61,7 @@ named_reach l from (Named to) = (
   λ h. inr (to, h, refl),
 )
 
-leads_on : (l : List Item) (from to : List ℕ) (roles : List (List ℕ)) → Leads l from roles to → IsApplicable l from to ⊎ (to ≡ from)
+pub leads_on : (l : List Item) (from to : List ℕ) (roles : List (List ℕ)) → Leads l from roles to → IsApplicable l from to ⊎ (to ≡ from)
 leads_on l from to [] h = inr (sym h)
 leads_on l from to (role ∷ roles) h = inl (role, roles, h)
 

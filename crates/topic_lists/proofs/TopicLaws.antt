@@ -25,7 +25,7 @@ use Rattle.topic_lists.specs.Sought.{IsAdminOptionTopic, IsAdminsTopic, IsAskedF
 
 -- ---- topics that have keys of their own
 
-own : (t s : Topic) → t ≡ s → IsOwnTopic s → IsOwnTopic t
+pub own : (t s : Topic) → t ≡ s → IsOwnTopic s → IsOwnTopic t
 own t s e h = subst IsOwnTopic (sym e) h
 
 own_auth : (a : Auth) (t : Topic) → IsAuthTopic a t → IsOwnTopic t
@@ -66,7 +66,7 @@ own_grant g t (inl e) = own t (role_named g.role) e tt
 own_grant g t (inr (inl e)) = own t (authorization g.grantee) e tt
 own_grant g t (inr (inr e)) = own_auth g.grantor t e
 
-own_name : (x : Item) (t : Topic) → IsNameTopic x t → IsOwnTopic t
+pub own_name : (x : Item) (t : Topic) → IsNameTopic x t → IsOwnTopic t
 own_name (item.Schema x) t e = own t (authorization x.owner) e tt
 own_name (item.Table o) t (inl e) = own t (schema o.schema) e tt
 own_name (item.Table o) t (inr e) = own t (columns o) e tt
@@ -105,14 +105,14 @@ own_far_right r t (inl e) = own_first r.need.on t e
 own_far_right r t (inr (inl e)) = own_auth r.grantee t e
 own_far_right r t (inr (inr e)) = own_auth r.grantor t e
 
-own_far : (x : Item) (t : Topic) → IsFarTopic x t → IsOwnTopic t
+pub own_far : (x : Item) (t : Topic) → IsFarTopic x t → IsOwnTopic t
 own_far (item.Column c) t e = own t (schema c.table.schema) e tt
 own_far (item.Held r) t e = own_far_right r t e
 own_far (item.Grantable r) t e = own_far_right r t e
 own_far x t e = absurd e
 
 -- what an option adds to has none
-no_option : (x : Item) (t : Topic) → IsOptionTopic x t → IsOwnTopic t → ⊥
+pub no_option : (x : Item) (t : Topic) → IsOptionTopic x t → IsOwnTopic t → ⊥
 no_option (item.Grantable r) t e h = subst IsOwnTopic e h
 no_option (item.RoleAdmin g) t e h = subst IsOwnTopic e h
 no_option x t e h = e

@@ -5,9 +5,12 @@ mod acting;
 mod beside;
 mod carried;
 mod each;
+mod granted;
 mod lists;
+mod named;
 mod own;
 mod pushing;
+mod rights;
 mod sought;
 
 pub use lists::{put_asked, topics};

@@ -14,12 +14,15 @@ ghost use Rattle.topic_lists.specs.Sought.{IsAskedFor, IsTopicOf};
 use crate::acting::reached_if;
 use crate::beside::is_beside;
 use crate::carried::push_far;
+use crate::granted::put_granted;
+use crate::named::put_named;
 use crate::own::push_own;
+use crate::rights::{right_before, right_in};
 use crate::sought::{looks, put_sought};
-use cat_items::{Catalogue, Item, Need};
+use cat_items::{Auth, Catalogue, Item, Need};
 use sql_tree::Items;
 use std::alloc::{AllocError, Global};
-use topic_keys::{in_order, put_far_names, put_names};
+use topic_keys::{in_order, put_names};
 
 /// The keys of the topics that an item depends on, in any order.
 fn own_keys(alloc: Global, c: &Catalogue, x: &Item) -> Result<Vec<Item>, AllocError>
@@ -70,10 +73,9 @@ fn needs_unless(
     Ok(needs)
 }
 
-/// Puts in the keys of the topics under which all stands that an item's support can depend on, where the catalogue has the
-/// schemas, views, columns and role authorizations. All that the item before asks for is there already: where both are rights by the
-/// system to SELECT on one view, what they look for by way of it is not put in again. `Err` is want of memory.
-pub fn put_asked(
+/// Puts in all that is asked for an item, where all that the item before asks for is there already: what the right before names isn't put in again,
+/// and, where both are rights by the system to SELECT on one view, nor is what they look for by way of it.
+fn put_item(
     alloc: Global,
     c: &Catalogue,
     x: &Item,
@@ -86,7 +88,28 @@ pub fn put_asked(
     let needs = needs_unless(alloc, c, x, is_beside(x, before))?;
     let needs = needs.as_slice();
     let all = reached_if(alloc, c, x, looks(needs, x))?;
-    put_names(alloc, keys, x)?;
-    put_far_names(alloc, keys, x)?;
+    put_named(alloc, keys, x, before)?;
     put_sought(alloc, keys, x, needs, all.as_slice())
+}
+
+/// Puts in the keys of the topics under which all stands that an item's support can depend on, where the catalogue has the
+/// schemas, views, columns and role authorizations. All that the item before asks for is there already: of rights side by side most
+/// of what both ask for is not put in again. `Err` is want of memory.
+pub fn put_asked(
+    alloc: Global,
+    c: &Catalogue,
+    x: &Item,
+    before: Option<&Item>,
+    keys: &mut Vec<Item>,
+) -> Result<(), AllocError>
+    requires { HasAskedBefore c.now.items (option_copied before) keys.old.items }
+    ensures { OnOk result (Adds (IsAskedFor c.now.items x.now) keys.old.items keys.new.items) }
+{
+    match right_in(x) {
+        None => put_item(alloc, c, x, before, keys),
+        Some(right) => match &right.grantor {
+            Auth::Named(by) => put_granted(alloc, c, keys, right, by, right_before(before)),
+            _ => put_item(alloc, c, x, before, keys),
+        },
+    }
 }

@@ -1,32 +1,28 @@
-use Rattle.std.proofs.Common.{◌↔◌, ◌⊎◌, ◌≡◌, false, List, subst, sym}
-use Rattle.std.specs.List.{Contains}
+use Rattle.std.proofs.Common.{Some, subst, sym}
 use Rattle.std.specs.Option.{option_copied}
 use Rattle.std.proofs.lemmas.Result.{on_ok_weaker}
-use Rattle.cat_items.specs.declared.need.Need.{Need}
-use Rattle.cascade_laws.specs.Asks.{IsFarTopic}
-use Rattle.cascade_laws.specs.Topics.{IsNameTopic, IsOwnNeed}
-use Rattle.topic_keys.proofs.Adding.{adds_both}
-use Rattle.topic_lists.specs.Needs.{IsFarNeed}
-use Rattle.topic_lists.specs.Sought.{IsSoughtTopic}
-use Rattle.topic_lists.proofs.BesideLaws.{adds_asked}
-use Rattle.topic_lists.proofs.ActorLaws.{reached_where}
+use Rattle.topic_keys.proofs.Adding.{adds_alike}
+use Rattle.topic_lists.specs.Granted.{HasGranted, IsAskedOf}
+use Rattle.topic_lists.specs.RightNames.{HasNamed}
+use Rattle.topic_lists.specs.Sought.{IsAskedFor}
+use Rattle.topic_lists.proofs.GrantLaws.{asked_of, has_granted}
+use Rattle.topic_lists.proofs.NameLaws.{has_named}
 use Rattle.topic_lists.proofs.lists.put_asked.Goals as goal
 
-pub returns : goal.returns
-returns c =
+pub put_granted-requires-clause-named : goal.put_granted-requires-clause-named
+put_granted-requires-clause-named c =
+    subst (λ other. HasNamed other c.args.keys.now.items) (sym c.right_before.ensures) (has_named c.args.c.now.items c.args.keys.now.items (option_copied c.args.before) c.requires)
+
+pub put_granted-requires-clause-granted : goal.put_granted-requires-clause-granted
+put_granted-requires-clause-granted c =
+    subst (λ other. HasGranted c.args.c.now.items other c.args.keys.now.items) (sym c.right_before.ensures) (has_granted c.args.c.now.items c.args.keys.now.items (option_copied c.args.before) c.requires)
+
+pub returns-in-Named : goal.returns-in-Named
+returns-in-Named c =
     let l = c.args.c.now.items in
     let x = c.args.x.now in
-    let known = c.is_beside.result in
-    let needs = c.as_slice-needs.result.now in
-    let all = c.as_slice.result.now in
-    let old = c.args.keys.now.items in
-    let named = c.put_names.new.keys.items in
-    let far = c.put_far_names.new.keys.items in
-    let new = c.put_sought.new.keys.items in
-    let are : (need : Need) → Contains needs need ↔ (IsOwnNeed l x need ⊎ ((known ≡ false) × IsFarNeed l x need)) =
-    subst (λ (list : List Need). (need : Need) → Contains list need ↔ (IsOwnNeed l x need ⊎ ((known ≡ false) × IsFarNeed l x need))) (sym c.as_slice-needs.ensures.value) c.in_ok-needs.ensures in
-    let reach = reached_where l x needs c.in_ok-all.all.items all c.looks.result c.looks.ensures c.as_slice.ensures.value c.in_ok-all.ensures in
-    on_ok_weaker c.put_sought.result
-    (λ end. adds_asked l x (option_copied c.args.before) known needs all old new c.is_beside.ensures c.requires are reach
-    (adds_both (λ t. IsNameTopic x t ⊎ IsFarTopic x t) (IsSoughtTopic needs all x) old far new (adds_both (IsNameTopic x) (IsFarTopic x) old named far c.in_ok-put_names.ensures c.in_ok-put_far_names.ensures) end))
-    c.put_sought.ensures
+    let r = c.in-Some.right.now in
+    let by = c.in-Named.by in
+    on_ok_weaker c.put_granted.result
+    (adds_alike (IsAskedOf l r by) (IsAskedFor l x) c.args.keys.now.items c.put_granted.new.keys.items (asked_of l r by c.in-Named.is x (sym c.in-Some.ensures)))
+    c.put_granted.ensures
