@@ -1,5 +1,5 @@
 -- What is asked for a right by a user or role.
-use Rattle.std.proofs.Common.{◌≡◌, ◌↔◌, ◌⊎◌, inl, inr, ℕ, Bool, true, false, IsTrue, List, [], ◌∷◌, Option, Some, None, refl, sym, subst, ap, ◌∙◌}
+use Rattle.std.proofs.Common.{◌≡◌, ◌↔◌, ◌⊎◌, inl, inr, ℕ, Bool, false, IsTrue, List, [], ◌∷◌, Option, Some, None, refl, sym, subst, ap, ◌∙◌}
 use Rattle.std.specs.List.{Contains}
 use Rattle.cat_items.specs.declared.need.Auth.{Auth}
 use Rattle.cat_items.specs.declared.need.Auth.TheVariants.{System, Public, Named}
@@ -12,10 +12,10 @@ use Rattle.cat_items.specs.Relevant.{ActsInRight, IsActor, IsNeedOf, IsRightNeed
 use Rattle.role_graph.specs.Roles.{IsApplicable}
 use Rattle.cascade_laws.specs.Asks as asks
 use Rattle.cascade_laws.specs.Asks.{Asks, IsFarTopic}
-use Rattle.cascade_laws.specs.Topics.{Topic, IsGrantOf, IsNameTopic, IsNeedTopic, edges, supply}
+use Rattle.cascade_laws.specs.Topics.{Topic, IsGrantOf, IsNeedTopic, edges, supply}
 use Rattle.board_graph.specs.BoardKeys.{topic_key}
 use Rattle.board_graph.specs.Boards.{IsOwnTopic}
-use Rattle.topic_keys.specs.Lists.{Adds, IsKeyWhere}
+use Rattle.topic_keys.specs.Lists.{Adds}
 use Rattle.topic_lists.specs.Beside.{HasAskedBefore}
 use Rattle.topic_lists.specs.Granted.{HasGranted, IsAskedOf, IsGranted, IsGrantTopic, IsGrantTopicBy, IsReachTopic, IsToTopic}
 use Rattle.topic_lists.specs.RightNames.{IsBy, IsOf, IsRightName, right_before, right_in}

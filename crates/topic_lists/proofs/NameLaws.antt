@@ -1,5 +1,5 @@
 -- What rights name, put in but for what is there already.
-use Rattle.std.proofs.Common.{◌≡◌, ◌↔◌, ◌⊎◌, inl, inr, ℕ, Bool, true, false, IsTrue, List, Option, Some, None, refl, sym, subst}
+use Rattle.std.proofs.Common.{◌≡◌, ◌↔◌, ◌⊎◌, inl, inr, Bool, true, false, IsTrue, List, Option, Some, None, refl, sym, subst}
 use Rattle.std.specs.List.{Contains}
 use Rattle.cat_items.specs.declared.need.Auth.{Auth}
 use Rattle.cat_items.specs.declared.need.Auth.TheVariants.{System, Public, Named}
@@ -11,7 +11,7 @@ use Rattle.cascade_laws.specs.Asks as asks
 use Rattle.cascade_laws.specs.Asks.{Asks, IsFarTopic, IsFarRightTopic, IsFirstTopic}
 use Rattle.cascade_laws.specs.Topics.{Topic, IsAuthTopic, IsNameTopic, IsNeedTopic, IsObjectTopic, IsPartyTopic, IsRightTopic}
 use Rattle.board_graph.specs.BoardKeys.{topic_key}
-use Rattle.topic_keys.specs.Lists.{Adds, IsKeyWhere}
+use Rattle.topic_keys.specs.Lists.{Adds}
 use Rattle.topic_keys.specs.Names.{IsNeedColumnTopic}
 use Rattle.topic_lists.specs.Beside.{HasAskedBefore}
 use Rattle.topic_lists.specs.RightNames.{HasNamed, IsAt, IsBy, IsOf, IsPlaceTopic, IsRightName, IsTo, right_before, right_in}

@@ -1,4 +1,4 @@
-use Rattle.std.proofs.Common.{◌≡◌, ◌⊎◌, Some, subst, sym}
+use Rattle.std.proofs.Common.{◌⊎◌, sym}
 use Rattle.std.proofs.lemmas.Result.{on_ok_weaker}
 use Rattle.cascade_laws.specs.Asks.{IsFarTopic}
 use Rattle.cascade_laws.specs.Topics.{IsNameTopic}
