@@ -1,5 +1,5 @@
 -- What users and roles granted: what searches tell of what it rests on.
-use Rattle.std.proofs.Common.{◌≡◌, ◌≢◌, ◌⊎◌, ◌↔◌, ◌+◌, ◌<◌, ◌≤◌, ℕ, Bool, true, false, List, None, [], ◌∷◌, ◌++◌, length, get_or, refl, sym, ap, ◌∙◌, subst, inl, inr, arith}
+use Rattle.std.proofs.Common.{◌≡◌, ◌≢◌, ◌⊎◌, ◌↔◌, ◌+◌, ◌<◌, ◌≤◌, ℕ, Bool, true, false, List, None, [], ◌∷◌, ◌++◌, length, get_or, IsTrue, refl, sym, ap, ◌∙◌, subst, inl, inr, arith}
 use Rattle.std.specs.List.{All, Contains}
 use Rattle.std.specs.List.Sorted.{IsPermutation}
 use Rattle.std.specs.declared.cmp.Ordering.TheVariants.{Less, Equal}
@@ -31,7 +31,7 @@ use Rattle.part_rounds.specs.declared.grantees.Title.{Title}
 use Rattle.part_rounds.specs.declared.grantees.Title.TheVariants as title
 use Rattle.part_rounds.specs.declared.grants.Grant.{Grant}
 use Rattle.part_rounds.specs.declared.grants.Grant.TheVariants as grant
-use Rattle.part_rounds.specs.Grantees.{AreOptions, AreOptionsBelow, HasOptionTo, IsOption, IsOptionAt, IsTitled, titled, unsigned}
+use Rattle.part_rounds.specs.Grantees.{AreOptions, AreOptionsBelow, HasOptionTo, IsOpen, IsOption, IsOptionAt, IsStartFor, IsTitled, StartsAt, titled, unsigned}
 use Rattle.part_rounds.specs.Grants.{IsMade, IsMadeFor, IsNoAdmin, IsOptionFor, IsOptionTo, IsStanding, IsWay, LeadsOn, grant_item, grantor_of}
 use Rattle.part_rounds.proofs.TitleLaws.{grant_from_key}
 
@@ -106,6 +106,17 @@ option_there items options marks g to are = (
       let same : unsigned y ≡ titled o.0.title = subst (λ z. unsigned z ≡ titled o.0.title) (subst (λ k. get_or items k y ≡ y) (sym o.2) p.1.is) (there.1 y) in
       (o.0, o.1, subst (IsOptionTo g to) same ((to_unsigned g to y).0 h.2), subst (λ k. get_or marks k false ≡ true) (sym o.2) p.1.mark),
 )
+
+-- where the options of the title to PUBLIC start
+pub starts_to_public : (g : Grant) (options : List GrantOption) (start : ℕ) (t : Title) → ((x : Item) → IsTitled t x ↔ IsOptionTo g Public x) → IsStartFor g options start → StartsAt options (titled t) start
+starts_to_public (grant.Right r) options start t tells starts =
+    let x : Item = item.Grantable (record { need = r.now.need; grantor = System; grantee = Public }) in
+    subst (λ y. StartsAt options y start) ((tells x).1 (refl, refl)) starts
+starts_to_public (grant.Role g) options start t tells starts = absurd (none (titled t) ((tells (titled t)).0 (titled_itself t)))
+  where
+    none : (y : Item) → IsOptionTo (grant.Role g) Public y → ⊥
+    none (item.RoleAdmin q) h = let odd : Named q.grantee ≡ Public = h.1 in cc
+    none y h = h
 
 -- ---- whom a user or role reaches who has such an option
 
@@ -268,3 +279,36 @@ granted_parts c s option g by is =
     let parts = rests_parts option s g by is in
     let made = made_parts c s option g in
     (λ h. made.0 (parts.1 (h.0, h.2, h.3), h.1), λ h. let m = made.1 h in let p = parts.0 m.0 in (p.0, m.1, p.1, p.2))
+
+-- ---- what tells of an item that was granted
+
+module _ (c s : List Item) (option : Bool) (g : Grant) (by : List ℕ) (x : Item) (is_by : grantor_of g ≡ Named by) (is : x ≡ grant_item option g) where
+  parts : Rests option s g by ↔ Supported c s x
+  parts = subst (λ y. Rests option s g by ↔ Supported c s y) (sym is) (granted_parts c s option g by is_by)
+
+  pub not_ready : ¬ (IsNoAdmin g × IsMadeFor option s g) → ¬ (Supported c s x)
+  not_ready none h = let p = parts.1 h in none (p.0, p.1)
+
+  -- nobody whom its grantor reaches has such an option
+  pub no_option : ¬ (Has s (IsOptionFor s g by)) → ¬ (Supported c s x)
+  no_option none h = none (parts.1 h).2
+
+  -- somebody has
+  pub stands_told : (answer : Bool) → IsNoAdmin g × IsMadeFor option s g → Has s (IsOptionFor s g by) → IsTrue answer ↔ IsStanding s g by → IsTrue answer ↔ Supported c s x
+  stands_told answer ready has stands = (λ e. parts.0 (ready.0, ready.1, has, stands.0 e), λ h. stands.1 (parts.1 h).3)
+
+module _ (items : List Item) (options : List GrantOption) (marks : List Bool) (g : Grant) (by : List ℕ) (are : AreOptions items options) where
+  pub open_has : IsOpen options marks g (Named by) → Has (marked items marks) (IsOptionFor (marked items marks) g by)
+  open_has h = elim h [
+    | inl own ↦ from_own items (marked items marks) g by ((option_there items options marks g (Named by) are).0 own)
+    | inr public ↦ from_public items (marked items marks) g by ((option_there items options marks g Public are).0 public)
+  ]
+
+  pub closed_has : ¬ (IsOpen options marks g (Named by)) → Has (marked items marks) (IsOptionFor (marked items marks) g by) → Has items (IsWay (marked items marks) g by)
+  closed_has closed h = elim (ways items (marked items marks) g by (marked_within items marks) h) [
+    | inl own ↦ absurd (closed (inl ((option_there items options marks g (Named by) are).1 own)))
+    | inr other ↦ elim other [
+      | inl public ↦ absurd (closed (inr ((option_there items options marks g Public are).1 public)))
+      | inr way ↦ way
+    ]
+  ]

@@ -1,13 +1,14 @@
 -- The order of options by title, and what a search in it finds.
 use Rattle.std.proofs.Common.{◌≡◌, ◌+◌, ◌<◌, ◌≤◌, ℕ, Bool, true, false, List, Some, None, length, get_or, refl, sym, ap, ◌∙◌, subst, inl, inr, arith}
 use Rattle.std.specs.FinMap.{IsAntisymmetric, nat_cmp-IsAntisymmetric, slice_cmp-IsAntisymmetric}
-use Rattle.std.specs.List.Sorted.{IsNonDecreasingBy, IsPartitionedBy, IsPartitionPoint}
+use Rattle.std.specs.List.{AllWithin, HoldsAt}
+use Rattle.std.specs.List.Sorted.{IsNonDecreasingBy, IsPartitionedBy}
 use Rattle.std.specs.Option.{option_cmp}
 use Rattle.std.specs.Ordering.{is_gt, is_lt, nat_cmp, ordering_index, ordering_then}
 use Rattle.std.specs.declared.cmp.Ordering.{Ordering}
 use Rattle.std.specs.declared.cmp.Ordering.TheVariants.{Less, Equal, Greater}
 use Rattle.std.proofs.lemmas.Cmp.{tied_itself}
-use Rattle.std.proofs.lemmas.Bool.{cases_lt, false≢true}
+use Rattle.std.proofs.lemmas.Bool.{cases_Bool, cases_lt, false≢true}
 use Rattle.std.proofs.lemmas.List.{get_or_default}
 use Rattle.std.proofs.lemmas.List.Sorted.{searchable_from_sorted}
 use Rattle.sql_names.specs.Names.{name_cmp-IsAntisymmetric}
@@ -26,7 +27,7 @@ use Rattle.part_rounds.specs.declared.grantees.Title.TheVariants as title
 use Rattle.part_rounds.specs.declared.grants.Grant.{Grant}
 use Rattle.part_rounds.specs.declared.grants.Grant.TheVariants as grant
 use Rattle.part_rounds.specs.Grants.{grant_item}
-use Rattle.part_rounds.specs.Grantees.{AreByTitle, HasTitle, title_cmp, titled}
+use Rattle.part_rounds.specs.Grantees.{AreByTitle, HasTitle, StartsAt, title_cmp, titled}
 
 -- ---- what compares as equal
 
@@ -153,8 +154,16 @@ module _ (options : List GrantOption) (x : Title) where
   pub options_parted : AreByTitle options → IsPartitionedBy (λ o. is_lt (place o)) options
   options_parted order i j d low high e = less_before (place (get_or options i d)) (place (get_or options j d)) (rises order i j d low high) e
 
-  abbrev pub StartsAt : ℕ → Type 0
-  StartsAt start = IsPartitionPoint (λ o. is_lt (place o) ≡ true) (λ o. is_lt (place o) ≡ false) options start
+  -- the options up to one that comes before those that are sought come before them
+  pub before_to : AreByTitle options → (last : ℕ) → last < length options → HoldsAt (λ o. true ≡ is_lt (place o)) options last → AllWithin (λ o. is_lt (place o) ≡ true) options 0 (last + 1)
+  before_to order last low here k d _ below = options_parted order k last d (omega (arith, below)) low (sym (here d))
+
+  -- the options from one on that doesn't come before them don't, either
+  pub behind_from : AreByTitle options → (from : ℕ) → HoldsAt (λ o. false ≡ is_lt (place o)) options from → AllWithin (λ o. is_lt (place o) ≡ false) options from (length options)
+  behind_from order from here k d low high = elim (cases_Bool (is_lt (place (get_or options k d)))) [
+    | inl e ↦ absurd (false≢true (here d ∙ options_parted order from k d low high e))
+    | inr e ↦ e
+  ]
 
   level : (o : Ordering) → is_lt o ≡ false → is_gt o ≡ false → o ≡ Equal
   level Less p q = absurd (false≢true (sym p))
@@ -168,13 +177,13 @@ module _ (options : List GrantOption) (x : Title) where
   equal_not_greater o e h = false≢true (sym (ap is_gt e) ∙ h)
 
   -- one at the start or behind it that isn't behind those that are sought is one of them
-  pub is_sought : (start at : ℕ) (o : GrantOption) → StartsAt start → start ≤ at → at < length options → o ≡ get_or options at o → is_gt (place o) ≡ false → titled o.title ≡ titled x
+  pub is_sought : (start at : ℕ) (o : GrantOption) → StartsAt options (titled x) start → start ≤ at → at < length options → o ≡ get_or options at o → is_gt (place o) ≡ false → titled o.title ≡ titled x
   is_sought start at o starts from low is not_behind =
       let not_before : is_lt (place o) ≡ false = subst (λ (p : GrantOption). is_lt (place p) ≡ false) (sym is) (starts.1 at o from low) in
       titled-is o.title x (level (place o) not_before not_behind)
 
   -- one that is sought, and is marked, where none is up to a place
-  module _ (marks : List Bool) (start at : ℕ) (starts : StartsAt start) (none : NoneMarked options marks start at) where
+  module _ (marks : List Bool) (start at : ℕ) (starts : StartsAt options (titled x) start) (none : NoneMarked options marks start at) where
     none_at : (o : GrantOption) (k : ℕ) → get_or options k o ≡ o → k < at → place o ≡ Equal → get_or marks o.at false ≡ true → ⊥
     none_at o k is below equal on = elim (cases_lt k start) [
       | inl before ↦ equal_not_less (place o) equal (subst (λ (p : GrantOption). is_lt (place p) ≡ true) is (starts.0 k o (omega arith) before))

@@ -1,10 +1,10 @@
 -- Options by what they let grant, and to whom.
-use Rattle.std.specs.Prelude.{◌≡◌, ◌<◌, ℕ, Bool, true, false, List, All, Contains, length, slice_index_or}
-use Rattle.std.specs.List.Sorted.{IsSortedBy}
+use Rattle.std.specs.Prelude.{◌≡◌, ◌<◌, ◌⊎◌, ℕ, Bool, true, false, List, All, Contains, length, slice_index_or}
+use Rattle.std.specs.List.Sorted.{IsPartitionPoint, IsSortedBy}
 use Rattle.std.specs.Ordering.{is_lt}
 use Rattle.std.specs.declared.cmp.Ordering.{Ordering}
 use Rattle.cat_items.specs.declared.need.Auth.{Auth}
-use Rattle.cat_items.specs.declared.need.Auth.TheVariants.{System}
+use Rattle.cat_items.specs.declared.need.Auth.TheVariants.{System, Public}
 use Rattle.cat_items.specs.declared.item.Item.{Item}
 use Rattle.cat_items.specs.declared.item.Item.TheVariants as item
 use Rattle.cat_items.specs.Order.{item_cmp}
@@ -13,6 +13,7 @@ use Rattle.part_rounds.specs.declared.grantees.GrantOption.{GrantOption}
 use Rattle.part_rounds.specs.declared.grantees.Title.{Title}
 use Rattle.part_rounds.specs.declared.grantees.Title.TheVariants.{Role, Right}
 use Rattle.part_rounds.specs.declared.grants.Grant.{Grant}
+use Rattle.part_rounds.specs.declared.grants.Grant.TheVariants as grant
 use Rattle.part_rounds.specs.Grants.{IsOptionTo}
 
 -- the option as if the system had granted it
@@ -57,6 +58,15 @@ AreOptions items options = AreOptionsBelow items options (length items)
 abbrev pub AreByTitle : List GrantOption → Type 0
 AreByTitle options = IsSortedBy (λ a b. is_lt (title_cmp a.title b.title)) options
 
+-- the options before a place come before those of a title, and the others don't
+abbrev pub StartsAt : List GrantOption → Item → ℕ → Type 0
+StartsAt options x start = IsPartitionPoint (λ o. is_lt (item_cmp (titled o.title) x) ≡ true) (λ o. is_lt (item_cmp (titled o.title) x) ≡ false) options start
+
+-- the same of those to PUBLIC that let grant the same, where it is a right
+abbrev pub IsStartFor : Grant → List GrantOption → ℕ → Type 0
+IsStartFor (grant.Role g) options start = Unit {0}
+IsStartFor (grant.Right r) options start = StartsAt options (item.Grantable (record { need = r.now.need; grantor = System; grantee = Public })) start
+
 -- all options of a list, by title
 pub record AreListed (items : List Item) (options : List GrantOption) : Type 0 where
   pub options_are : AreOptions items options
@@ -69,3 +79,7 @@ HasTitle options marks t = (o : GrantOption) × Contains options o × (titled o.
 -- one to this grantee that lets grant the same, at a marked place
 abbrev pub HasOptionTo : List GrantOption → List Bool → Grant → Auth → Type 0
 HasOptionTo options marks grant to = (o : GrantOption) × Contains options o × IsOptionTo grant to (titled o.title) × (slice_index_or marks o.at false ≡ true)
+
+-- one to this grantee or to PUBLIC
+abbrev pub IsOpen : List GrantOption → List Bool → Grant → Auth → Type 0
+IsOpen options marks grant to = HasOptionTo options marks grant to ⊎ HasOptionTo options marks grant Public

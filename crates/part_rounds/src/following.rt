@@ -9,7 +9,7 @@ ghost use Rattle.part_rounds.specs.Grantees.{AreListed};
 ghost use Rattle.part_rounds.specs.Grown.{HaveGrown, IsWorklist};
 ghost use Rattle.part_rounds.specs.Options.{Knows};
 
-use crate::grantees::GrantOption;
+use crate::hints::Guide;
 use crate::options::Found;
 use crate::trying::try_mark;
 use cat_items::{Auth, Catalogue, Item, Marks};
@@ -54,7 +54,7 @@ fn mark_following<'a>(
     c: &'a Catalogue,
     marks: &mut Marks,
     walk: &mut Walk,
-    options: &[GrantOption<'_>],
+    guide: Guide<'_>,
     at: usize,
     known: Option<Found<'a>>,
     list: &mut Vec<usize>,
@@ -62,7 +62,7 @@ fn mark_following<'a>(
     requires within { at < length c.now.items }
     requires room { IsRoomFor walk.old c.now.items }
     requires marks { length marks.old ≡ length c.now.items }
-    requires options { AreListed c.now.items options.now }
+    requires options { AreListed c.now.items guide.options.now }
     requires known { Knows c.now.items (marked c.now.items marks.old) known }
     requires list { IsWorklist c.now.items marks.old list.old.items (vec_capacity list.old) }
     ensures grown { HaveGrown (Supported c.now.items) c.now.items marks.old marks.new }
@@ -79,7 +79,7 @@ fn mark_following<'a>(
         if compare_following(&items[next], before).is_ne() {
             return found;
         }
-        let told = try_mark(c, marks, walk, options, next, found);
+        let told = try_mark(c, marks, walk, guide, next, found);
         found = told.found;
         if told.holds {
             list.push_reserved(next);
@@ -93,7 +93,7 @@ pub fn mark_behind<'a>(
     c: &'a Catalogue,
     marks: &mut Marks,
     walk: &mut Walk,
-    options: &[GrantOption<'_>],
+    guide: Guide<'_>,
     from: usize,
     known: Option<Found<'a>>,
     list: &mut Vec<usize>,
@@ -101,7 +101,7 @@ pub fn mark_behind<'a>(
     requires within { from < length c.now.items }
     requires room { IsRoomFor walk.old c.now.items }
     requires marks { length marks.old ≡ length c.now.items }
-    requires options { AreListed c.now.items options.now }
+    requires options { AreListed c.now.items guide.options.now }
     requires known { Knows c.now.items (marked c.now.items marks.old) known }
     requires list { IsWorklist c.now.items marks.old list.old.items (vec_capacity list.old) }
     requires free { length list.old.items + count_by not marks.old < vec_capacity list.old }
@@ -113,7 +113,7 @@ pub fn mark_behind<'a>(
     list.push_reserved(from);
     let mut found = known;
     while let Some(at) = list.pop() {
-        found = mark_following(c, marks, walk, options, at, found, list);
+        found = mark_following(c, marks, walk, guide, at, found, list);
     }
     found
 }

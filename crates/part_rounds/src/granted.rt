@@ -1,8 +1,8 @@
 //! Roles and rights that users and roles granted: what they rest on is found by searches.
 
-ghost use Rattle.std.specs.Prelude.{◌≡◌, ◌↔◌, ◌⊎◌, ◌<◌, All, IfNone, IfSome, IsTrue, false, length};
+ghost use Rattle.std.specs.Prelude.{◌≡◌, ◌↔◌, ◌<◌, All, IfNone, IfSome, IsTrue, false, length};
 ghost use Rattle.cat_items.specs.declared.item.Item.TheVariants as item;
-ghost use Rattle.cat_items.specs.declared.need.Auth.TheVariants.{Named, Public};
+ghost use Rattle.cat_items.specs.declared.need.Auth.TheVariants.{Named};
 ghost use Rattle.cat_items.specs.Order.{item_cmp};
 ghost use Rattle.cat_items.specs.Ranges.{IsGrantOf, IsRoleAuthorization};
 ghost use Rattle.cat_items.specs.Reach.{Has};
@@ -10,14 +10,16 @@ ghost use Rattle.cat_items.specs.Supported.{IsGrantee, Supported};
 ghost use Rattle.role_graph.specs.Judges.{counting};
 ghost use Rattle.role_graph.specs.Marked.{marked};
 ghost use Rattle.role_graph.specs.Roles.{IsRoomFor};
-ghost use Rattle.part_rounds.specs.Grantees.{AreByTitle, AreListed, HasOptionTo};
+ghost use Rattle.part_rounds.specs.Grantees.{AreByTitle, AreListed, IsOpen};
 ghost use Rattle.part_rounds.specs.Grants as spec;
 
-use crate::grantees::{GrantOption, count_of, is_marked_to};
+use crate::grantees::{GrantOption, are_few, is_marked_to, is_marked_to_public, start_for};
 use crate::grants::{Grant, Granted};
+use crate::hints::{Hint, NOWHERE};
 use cat_items::{
     Auth, Catalogue, Item, Marks, Part, Right, RoleGrant, role_authorizations, role_grants_of,
 };
+use grant_chain::supported;
 use role_graph::{Actor, Judge, Walk};
 use sql_tree::{Action, Name};
 use std::cmp::Ordering;
@@ -50,7 +52,7 @@ fn is_way(
     ensures room { walk.new ≡ walk.old }
 {
     let role = Actor::Named(role);
-    is_marked_to(options, marks, grant, role)
+    is_marked_to(options, marks, grant, role, NOWHERE)
         && walk.reaches_by(c, Some(marks), Actor::Named(by), role)
 }
 
@@ -84,49 +86,28 @@ fn has_way(
     false
 }
 
-/// Whether a user or role, or PUBLIC, has a marked option that lets grant the same.
-fn is_open(options: &[GrantOption<'_>], marks: &Marks, grant: Grant<'_>, by: &Name) -> bool
-    requires order { AreByTitle options.now }
-    requires within { All (λ o. o.at < length marks.now) options.now }
-    ensures { IsTrue result ↔ (HasOptionTo options.now marks.now grant.entry (Named by.now) ⊎ HasOptionTo options.now marks.now grant.entry Public) }
-{
-    is_marked_to(options, marks, grant, Actor::Named(by))
-        || is_marked_to(options, marks, grant, Actor::Public)
-}
-
-/// Up to how many options that let grant the same are gone through one by one.
-const FEW: usize = 8;
-
-/// Whether what a user or a role granted is best tried by searches: where who made the grant has no marked option and there are only a few, going
-/// through these is less than trying each role that is granted to anybody.
-pub fn is_best_sought(
-    c: &Catalogue,
-    marks: &Marks,
+/// Where the options start that let grant the same, if neither a user or role nor PUBLIC has a marked one. Those of the user or role may start at
+/// the place that is given.
+fn closed_from(
     options: &[GrantOption<'_>],
-    x: Granted<'_>,
-) -> bool
-    requires marks { length marks.now ≡ length c.now.items }
-    requires options { AreListed c.now.items options.now }
-{
-    count_of(options, x.grant) > FEW || is_open(options, marks, x.grant, x.by)
-}
-
-/// Whether a user or role reaches one who has a marked option that lets grant the same.
-fn may_grant(
-    c: &Catalogue,
     marks: &Marks,
-    walk: &mut Walk,
-    options: &[GrantOption<'_>],
     grant: Grant<'_>,
     by: &Name,
-) -> bool
-    requires room { IsRoomFor walk.old c.now.items }
-    requires marks { length marks.now ≡ length c.now.items }
-    requires options { AreListed c.now.items options.now }
-    ensures answer { IsTrue result ↔ Has (marked c.now.items marks.now) (spec.IsOptionFor (marked c.now.items marks.now) grant.entry by.now) }
-    ensures room { walk.new ≡ walk.old }
+    hint: usize,
+) -> Option<usize>
+    requires order { AreByTitle options.now }
+    requires within { All (λ o. o.at < length marks.now) options.now }
+    ensures some { IfSome result (λ start. ¬ (IsOpen options.now marks.now grant.entry (Named by.now))) }
+    ensures none { IfNone result (IsOpen options.now marks.now grant.entry (Named by.now)) }
 {
-    is_open(options, marks, grant, by) || has_way(c, marks, walk, options, grant, by)
+    if is_marked_to(options, marks, grant, Actor::Named(by), hint) {
+        return None;
+    }
+    let start = start_for(options, grant);
+    if is_marked_to_public(options, marks, grant, start) {
+        return None;
+    }
+    Some(start)
 }
 
 /// Compares an item with a role authorization.
@@ -151,7 +132,7 @@ fn compare_held(x: &Item, right: &Right) -> Ordering
     }
 }
 
-fn compare_made(x: &Item, grant: Grant<'_>) -> Ordering
+pub fn compare_made(x: &Item, grant: Grant<'_>) -> Ordering
     ensures { result ≡ item_cmp x.now (spec.grant_item false grant.entry) }
 {
     match grant {
@@ -171,6 +152,18 @@ pub fn is_made(c: &Catalogue, marks: &Marks, grant: Grant<'_>) -> bool
     }
 }
 
+/// The same, where it may be at the place that is given.
+fn is_made_at(c: &Catalogue, marks: &Marks, grant: Grant<'_>, hint: usize) -> bool
+    requires { length marks.now ≡ length c.now.items }
+    ensures { IsTrue result ↔ Has (marked c.now.items marks.now) (spec.IsMade grant.entry) }
+{
+    let items = c.items();
+    if hint < items.len() && compare_made(&items[hint], grant).is_eq() {
+        return marks.marked(hint);
+    }
+    is_made(c, marks, grant)
+}
+
 fn is_no_admin(grant: Grant<'_>) -> bool
     ensures { IsTrue result ↔ spec.IsNoAdmin grant.entry }
 {
@@ -181,19 +174,19 @@ fn is_no_admin(grant: Grant<'_>) -> bool
 }
 
 /// Whether the grant itself is there, and marked, where it is its option that is asked for.
-fn is_made_for(c: &Catalogue, marks: &Marks, grant: Grant<'_>, option: bool) -> bool
+fn is_made_for(c: &Catalogue, marks: &Marks, grant: Grant<'_>, option: bool, hint: usize) -> bool
     requires { length marks.now ≡ length c.now.items }
     ensures { IsTrue result ↔ spec.IsMadeFor option (marked c.now.items marks.now) grant.entry }
 {
-    !option || is_made(c, marks, grant)
+    !option || is_made_at(c, marks, grant, hint)
 }
 
 /// The same of a grant that isn't one of a right to ADMIN.
-fn is_ready(c: &Catalogue, marks: &Marks, grant: Grant<'_>, option: bool) -> bool
+fn is_ready(c: &Catalogue, marks: &Marks, grant: Grant<'_>, option: bool, hint: usize) -> bool
     requires { length marks.now ≡ length c.now.items }
     ensures { IsTrue result ↔ (spec.IsNoAdmin grant.entry × spec.IsMadeFor option (marked c.now.items marks.now) grant.entry) }
 {
-    is_no_admin(grant) && is_made_for(c, marks, grant, option)
+    is_no_admin(grant) && is_made_for(c, marks, grant, option, hint)
 }
 
 /// Whether a grantee is PUBLIC, or stands.
@@ -241,26 +234,36 @@ fn stands_by(c: &Catalogue, marks: &Marks, walk: &mut Walk, grant: Grant<'_>, by
     answer
 }
 
-/// Whether the items at marked places support what a user or a role granted.
+/// Whether the items at marked places support an item that a user or a role granted. Where who made the grant has no marked option and there
+/// are only a few, going through these is less than trying each role that is granted to anybody.
 pub fn granted_told(
     c: &Catalogue,
     marks: &Marks,
     walk: &mut Walk,
     options: &[GrantOption<'_>],
-    x: Granted<'_>,
+    x: &Item,
+    granted: Granted<'_>,
+    hint: Hint,
 ) -> bool
     requires room { IsRoomFor walk.old c.now.items }
     requires marks { length marks.now ≡ length c.now.items }
     requires options { AreListed c.now.items options.now }
-    requires by { spec.IsBy x }
-    ensures answer { IsTrue result ↔ Supported c.now.items (marked c.now.items marks.now) (spec.grant_item x.entry.option x.entry.grant) }
+    requires by { spec.IsBy granted }
+    requires item { x.now ≡ spec.grant_item granted.option granted.grant }
+    ensures answer { IsTrue result ↔ Supported c.now.items (marked c.now.items marks.now) x.now }
     ensures room { walk.new ≡ walk.old }
 {
-    if !is_ready(c, marks, x.grant, x.option) {
+    if !is_ready(c, marks, granted.grant, granted.option, hint.made) {
         return false;
     }
-    if !may_grant(c, marks, walk, options, x.grant, x.by) {
+    let Some(start) = closed_from(options, marks, granted.grant, granted.by, hint.own) else {
+        return stands_by(c, marks, walk, granted.grant, granted.by);
+    };
+    if are_few(options, granted.grant, start) {
+        return supported(c, marks, walk, x);
+    }
+    if !has_way(c, marks, walk, options, granted.grant, granted.by) {
         return false;
     }
-    stands_by(c, marks, walk, x.grant, x.by)
+    stands_by(c, marks, walk, granted.grant, granted.by)
 }

@@ -12,9 +12,10 @@ ghost use Rattle.role_graph.specs.Roles.{IsRoomFor};
 ghost use Rattle.part_rounds.specs.Grantees.{AreListed};
 ghost use Rattle.part_rounds.specs.Options as spec;
 
-use crate::granted::{granted_told, is_best_sought, is_made};
+use crate::granted::{granted_told, is_made};
 use crate::grantees::GrantOption;
 use crate::grants::{Grant, granted_in};
+use crate::hints::Hint;
 use cat_items::{Auth, Catalogue, Item, Marks, Right};
 use grant_chain::supported;
 use role_graph::{Judge, Walk};
@@ -155,6 +156,7 @@ fn told_alone(
     walk: &mut Walk,
     options: &[GrantOption<'_>],
     x: &Item,
+    hint: Hint,
 ) -> bool
     requires room { IsRoomFor walk.old c.now.items }
     requires marks { length marks.now ≡ length c.now.items }
@@ -163,10 +165,8 @@ fn told_alone(
     ensures room { walk.new ≡ walk.old }
 {
     match granted_in(x) {
-        Some(granted) if is_best_sought(c, marks, options, granted) => {
-            granted_told(c, marks, walk, options, granted)
-        }
-        _ => supported(c, marks, walk, x),
+        Some(granted) => granted_told(c, marks, walk, options, x, granted, hint),
+        None => supported(c, marks, walk, x),
     }
 }
 
@@ -177,6 +177,7 @@ pub fn told<'a>(
     walk: &mut Walk,
     options: &[GrantOption<'_>],
     x: &'a Item,
+    hint: Hint,
     found: Option<Found<'a>>,
 ) -> Answer<'a>
     requires room { IsRoomFor walk.old c.now.items }
@@ -189,7 +190,7 @@ pub fn told<'a>(
 {
     match option_to_select(x) {
         None => Answer {
-            holds: told_alone(c, marks, walk, options, x),
+            holds: told_alone(c, marks, walk, options, x, hint),
             found,
         },
         Some(right) => option_told(c, marks, walk, x, right, found),

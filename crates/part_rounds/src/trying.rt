@@ -8,7 +8,7 @@ ghost use Rattle.grant_chain.specs.Rounds.{IsTried};
 ghost use Rattle.part_rounds.specs.Grantees.{AreListed};
 ghost use Rattle.part_rounds.specs.Options.{Knows};
 
-use crate::grantees::GrantOption;
+use crate::hints::{Guide, hint_at};
 use crate::options::{Answer, Found, kept, told};
 use cat_items::{Catalogue, Marks};
 use role_graph::Walk;
@@ -18,14 +18,14 @@ pub fn try_mark<'a>(
     c: &'a Catalogue,
     marks: &mut Marks,
     walk: &mut Walk,
-    options: &[GrantOption<'_>],
+    guide: Guide<'_>,
     at: usize,
     found: Option<Found<'a>>,
 ) -> Answer<'a>
     requires within { at < length c.now.items }
     requires room { IsRoomFor walk.old c.now.items }
     requires marks { length marks.old ≡ length c.now.items }
-    requires options { AreListed c.now.items options.now }
+    requires options { AreListed c.now.items guide.options.now }
     requires found { Knows c.now.items (marked c.now.items marks.old) found }
     ensures tried { IsTried (Supported c.now.items) c.now.items marks.old at result.holds marks.new }
     ensures found { Knows c.now.items (marked c.now.items marks.new) result.found }
@@ -37,7 +37,8 @@ pub fn try_mark<'a>(
             found,
         };
     }
-    let told = told(c, marks, walk, options, &c.items()[at], found);
+    let hint = hint_at(guide, at);
+    let told = told(c, marks, walk, guide.options, &c.items()[at], hint, found);
     if !told.holds {
         return told;
     }

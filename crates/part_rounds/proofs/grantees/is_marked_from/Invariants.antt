@@ -1,5 +1,5 @@
 use Rattle.part_rounds.proofs.TitleLaws.{NoneMarked}
-use Rattle.part_rounds.proofs.grantees.is_marked.Given as goal
+use Rattle.part_rounds.proofs.grantees.is_marked_from.Given as goal
 
 abbrev pub invariant-loop-at : goal.invariant-loop-at
 invariant-loop-at l = record { none : NoneMarked l.options l.marks l.start l.at }
