@@ -1,15 +1,14 @@
 -- Where a key is found, and where it is nowhere.
-use Rattle.std.proofs.Common.{◌≡◌, ◌⊎◌, ℕ, zero, suc, Bool, true, false, nat_eq, nat_lt, if◌then◌else◌, List, [], ◌∷◌, ◌++◌, length, get_or, slice_get, Some, None, append_assoc, inl, inr, refl, sym, ◌∙◌, ap, subst, cond, ◌≤◌, ◌||◌, ◌+◌, arith}
+use Rattle.std.proofs.Common.{◌≡◌, ℕ, zero, suc, Bool, true, false, nat_eq, nat_lt, if◌then◌else◌, List, [], ◌∷◌, ◌++◌, length, map, get_or, slice_get, Some, None, append_assoc, inl, inr, refl, sym, ◌∙◌, ap, subst}
 use Rattle.std.specs.Cmp.{IsEquivalence}
-use Rattle.std.specs.List.{All, Contains, list_any, position, position_or_len}
+use Rattle.std.specs.List.{All, AllZip, Contains, fold, list_any, position, position_or_len}
 use Rattle.std.proofs.lemmas.Bool.{both_ways, cases_Bool, cases_lt, cond-false, cond-true, eqb-true, le-ltb, lt-ltb}
 use Rattle.std.proofs.lemmas.List.{append-nil}
-use Rattle.std.proofs.lemmas.List.Elements.{Contains-append_cases, Contains-append_left, Contains-push}
-use Rattle.std.proofs.lemmas.List.Folds.{list_any-append}
+use Rattle.std.proofs.lemmas.List.Elements.{Contains-append_cases, Contains-append_left, Contains-append_right}
 use Rattle.std.proofs.lemmas.List.Sums.{passes_at_first}
 use Rattle.std.proofs.lemmas.Map.Views.{Contains-from_any, list_any-from_Contains}
 use Rattle.std.proofs.lemmas.Option.{slice_get-get_or, slice_get_within}
-use Rattle.finite_chains.proofs.Members.{All-from_contains, Contains-cases, Contains-nil}
+use Rattle.finite_chains.proofs.Members.{All-from_contains, Contains-cases, Contains-head, Contains-nil}
 use Rattle.item_index.specs.Graphs.{Graph, HasKey, IsWhole, node_of}
 use Rattle.item_index.proofs.NodeLemmas.{absent_from}
 use Rattle.graph_steps.proofs.Numbers.{among}
@@ -18,8 +17,9 @@ use Rattle.graph_changes.specs.declared.ends.End.{End}
 use Rattle.graph_changes.specs.declared.ends.End.TheVariants.{Stays, Comes}
 use Rattle.graph_changes.specs.Ends.{ArePlaced, IsPlaced}
 use Rattle.indexmap.specs.IndexSet.{insert_key}
-use Rattle.board_plans.specs.Ends.{AreEnds, Ends, IsEnd, IsEndAmong, IsKnown, IsNewKey, IsPlaceOf, look_ups}
-use Rattle.board_plans.proofs.Members.{Apart, apart_append, apart_of_pairs, pairs_of_apart, zip_push, zip_right, zip_weaker}
+use Rattle.board_plans.specs.declared.arrivals.Arrival.{Arrival}
+use Rattle.board_plans.specs.Ends.{AreEnds, Ends, IsEnd, IsNewKey, IsPlaceOf}
+use Rattle.board_plans.proofs.Members.{Apart, apart_append, apart_of_pairs, pairs_of_apart, zip_append, zip_right, zip_weaker}
 
 -- ---- places
 
@@ -36,6 +36,33 @@ position_at {X} p xs d i e =
 position_some : {X : Type 0} (p : X → Bool) (xs : List X) (i : ℕ) → position p xs ≡ Some i → (x : X) × (slice_get xs i ≡ Some x) × (p x ≡ true)
 position_some p [] i e = cc
 position_some p (d ∷ rest) i e = position_at p (d ∷ rest) d i e
+
+place_stays : (keys more : List Item) (place : ℕ) (j : Item) → slice_get keys place ≡ Some j → slice_get (keys ++ more) place ≡ Some j
+place_stays [] more place j at = cc
+place_stays (i ∷ keys) more zero j at = at
+place_stays (i ∷ keys) more (suc place) j at = place_stays keys more place j at
+
+place_kept : (eq : Item → Item → Bool) (keys : List Item) (k j : Item) (place : ℕ) → IsPlaceOf eq keys j place → IsPlaceOf eq (insert_key eq keys k) j place
+place_kept eq keys k j place at =
+    elim (cases_Bool (list_any (eq k) keys)) [
+      | inl told ↦ subst (λ (ks : List Item). IsPlaceOf eq ks j place) (sym (ap (λ (b : Bool). if b then keys else keys ++ k ∷ []) told)) at
+      | inr none ↦ subst (λ (ks : List Item). IsPlaceOf eq ks j place) (sym (ap (λ (b : Bool). if b then keys else keys ++ k ∷ []) none)) (at.0, place_stays keys (k ∷ []) place at.0 at.1, at.2)
+    ]
+
+-- the keys of arrivals, where one more is put in
+pub first_more : (eq : Item → Item → Bool) (some : List Arrival) (a : Arrival) → fold (insert_key eq) [] (map (λ b. b.key) (some ++ a ∷ [])) ≡ insert_key eq (fold (insert_key eq) [] (map (λ b. b.key) some)) a.key
+first_more eq some a = go [] some
+  where
+    go : (seen : List Item) (bs : List Arrival) → fold (insert_key eq) seen (map (λ b. b.key) (bs ++ a ∷ [])) ≡ insert_key eq (fold (insert_key eq) seen (map (λ b. b.key) bs)) a.key
+    go seen [] = refl
+    go seen (b ∷ bs) = go (insert_key eq seen b.key) bs
+
+-- the places of arrivals' keys, where one more is put in
+pub places_more : (eq : Item → Item → Bool) (keys : List Item) (some : List Arrival) (places : List ℕ) (a : Arrival) (place : ℕ) → AllZip (λ b p. IsPlaceOf eq keys b.key p) some places → IsPlaceOf eq (insert_key eq keys a.key) a.key place
+    → AllZip (λ b p. IsPlaceOf eq (insert_key eq keys a.key) b.key p) (some ++ a ∷ []) (places ++ place ∷ [])
+places_more eq keys some places a place all here =
+    zip_append (λ b p. IsPlaceOf eq (insert_key eq keys a.key) b.key p) some places (a ∷ []) (place ∷ [])
+    (zip_weaker (λ b p. IsPlaceOf eq keys b.key p) (λ b p. IsPlaceOf eq (insert_key eq keys a.key) b.key p) some places (λ b p at. place_kept eq keys a.key b.key p at) all) (here, tt)
 
 module _ (eq : Item → Item → Bool) (laws : IsEquivalence eq) (g : Graph Item) (out : List ℕ) where
   -- ---- one key
@@ -73,11 +100,6 @@ module _ (eq : Item → Item → Bool) (laws : IsEquivalence eq) (g : Graph Item
 
   -- ---- keys that grow
 
-  place_stays : (keys more : List Item) (place : ℕ) (j : Item) → slice_get keys place ≡ Some j → slice_get (keys ++ more) place ≡ Some j
-  place_stays [] more place j at = cc
-  place_stays (i ∷ keys) more zero j at = at
-  place_stays (i ∷ keys) more (suc place) j at = place_stays keys more place j at
-
   -- an end stays where keys join that are nowhere
   pub end_stays : (keys more : List Item) → ((k : Item) → Contains more k → IsNewKey eq g out keys k) → (k : Item) (end : End) → IsEnd eq g out keys k end → IsEnd eq g out (keys ++ more) k end
   end_stays keys more new k (Comes place) at = (at.0, place_stays keys more place at.0 at.1, at.2)
@@ -112,57 +134,56 @@ module _ (eq : Item → Item → Bool) (laws : IsEquivalence eq) (g : Graph Item
   pub no_links : (keys : List Item) → AreEnds eq g out keys keys [] []
   no_links keys = record { more = []; behind = sym (append-nil keys); fresh = λ k h. absurd (Contains-nil k h); once = λ pairs. pairs; at = tt }
 
+  -- an end that was found stays where more are
+  pub end_kept : (before after : List Item) (wanted : List (Item × Item)) (ends : List (End × End)) → AreEnds eq g out before after wanted ends → (k : Item) (end : End) → IsEnd eq g out before k end → IsEnd eq g out after k end
+  end_kept before after wanted ends are k end is = subst (λ (ks : List Item). IsEnd eq g out ks k end) (sym are.behind) (end_stays before are.more (λ x h. (are.fresh x h).1) k end is)
+
+  -- the link l, of whose ends one is known to be at own, and the other joined
+  module _ (before after : List Item) (k other : Item) (own end : End) (at : IsEnd eq g out before k own) (is : Ends eq g out before after other end) where
+    joined : (more : List Item) × (after ≡ before ++ more) × ((j : Item) → Contains more j → (j ≡ other) × IsNewKey eq g out before j) × (Apart before → Apart after)
+    joined = grown before after other end is
+
+    own_end : IsEnd eq g out after k own
+    own_end = subst (λ (ks : List Item). IsEnd eq g out ks k own) (sym joined.1) (end_stays before joined.0 (λ x h. (joined.2 x h).1) k own at)
+
+    pub link_to : AreEnds eq g out before after ((k, other) ∷ []) ((own, end) ∷ [])
+    link_to = record {
+      more = joined.0;
+      behind = joined.1;
+      fresh = λ j h. let r = joined.2 j h in (((k, other), Contains-head (k, other) [], inr (sym r.0)), r.1);
+      once = λ pairs. pairs_of_apart after (joined.3 (apart_of_pairs before pairs));
+      at = ((own_end, is.at), tt);
+    }
+
+    pub link_from : AreEnds eq g out before after ((other, k) ∷ []) ((end, own) ∷ [])
+    link_from = record {
+      more = joined.0;
+      behind = joined.1;
+      fresh = λ j h. let r = joined.2 j h in (((other, k), Contains-head (other, k) [], inl (sym r.0)), r.1);
+      once = λ pairs. pairs_of_apart after (joined.3 (apart_of_pairs before pairs));
+      at = ((is.at, own_end), tt);
+    }
+
   still_new : (before more : List Item) (k : Item) → IsNewKey eq g out (before ++ more) k → IsNewKey eq g out before k
   still_new before more k new = record { absent = λ h. new.absent (Contains-append_left before more k h); gone = new.gone }
 
-  pub link_more : (before mid between after : List Item) (wanted : List (Item × Item)) (ends : List (End × End)) (j k : Item) (a b : End)
-      → AreEnds eq g out before mid wanted ends → Ends eq g out mid between j a → Ends eq g out between after k b → AreEnds eq g out before after (wanted ++ (j, k) ∷ []) (ends ++ (a, b) ∷ [])
+  pub links_then : (before mid after : List Item) (some others : List (Item × Item)) (first second : List (End × End))
+      → AreEnds eq g out before mid some first → AreEnds eq g out mid after others second → AreEnds eq g out before after (some ++ others) (first ++ second)
   unfolding BothEnds
-  link_more before mid between after wanted ends j k a b are one two = record {
-    more = are.more ++ (first.0 ++ second.0);
-    behind = all_behind;
-    fresh = fresh;
-    once = λ pairs. pairs_of_apart after (second.3 (first.3 (apart_of_pairs mid (are.once pairs))));
-    at = zip_push (BothEnds after) wanted ends (j, k) (a, b) (zip_weaker (BothEnds mid) (BothEnds after) wanted ends (λ l e h. (later l.0 e.0 h.0, later l.1 e.1 h.1)) are.at) (last j a one.at, two.at);
+  links_then before mid after some others first second one two = record {
+    more = one.more ++ two.more;
+    behind = two.behind ∙ ap (λ (ks : List Item). ks ++ two.more) one.behind ∙ append_assoc before one.more two.more;
+    fresh = λ k h. elim (Contains-append_cases one.more two.more k h) [
+      | inl old ↦ let was = one.fresh k old in ((was.0.0, Contains-append_left some others was.0.0 was.0.1, was.0.2), was.1)
+      | inr new ↦
+          let is = two.fresh k new in (
+            (is.0.0, Contains-append_right some others is.0.0 is.0.1, is.0.2),
+            still_new before one.more k (subst (λ (ks : List Item). IsNewKey eq g out ks k) one.behind is.1),
+          )
+    ];
+    once = λ pairs. two.once (one.once pairs);
+    at = zip_append (BothEnds after) some first others second (zip_weaker (BothEnds mid) (BothEnds after) some first (λ l e h. (end_kept mid after others second two l.0 e.0 h.0, end_kept mid after others second two l.1 e.1 h.1)) one.at) two.at;
   }
-    where
-      Joining : List Item → List Item → Item → Type 0
-      Joining old next key = (more : List Item) × (next ≡ old ++ more) × ((i : Item) → Contains more i → (i ≡ key) × IsNewKey eq g out old i) × (Apart old → Apart next)
-
-      first : Joining mid between j
-      first = grown mid between j a one
-
-      second : Joining between after k
-      second = grown between after k b two
-
-      all_behind : after ≡ before ++ (are.more ++ (first.0 ++ second.0))
-      all_behind = second.1 ∙ ap (λ (ks : List Item). ks ++ second.0) (first.1 ∙ ap (λ (ks : List Item). ks ++ first.0) are.behind) ∙ regroup before are.more first.0 second.0
-        where
-          regroup : (p q r s : List Item) → ((p ++ q) ++ r) ++ s ≡ p ++ (q ++ (r ++ s))
-          regroup p q r s = simp append_assoc
-
-      last : (i : Item) (end : End) → IsEnd eq g out between i end → IsEnd eq g out after i end
-      last i end is = subst (λ (ks : List Item). IsEnd eq g out ks i end) (sym second.1) (end_stays between second.0 (λ x h. (second.2 x h).1) i end is)
-
-      later : (i : Item) (end : End) → IsEnd eq g out mid i end → IsEnd eq g out after i end
-      later i end is = last i end (subst (λ (ks : List Item). IsEnd eq g out ks i end) (sym first.1) (end_stays mid first.0 (λ x h. (first.2 x h).1) i end is))
-
-      one_more : (x : Item) → (j ≡ x) ⊎ (k ≡ x) → IsEndAmong (wanted ++ (j, k) ∷ []) x
-      one_more x is = ((j, k), Contains-push wanted (j, k), is)
-
-      fresh : (x : Item) → Contains (are.more ++ (first.0 ++ second.0)) x → IsEndAmong (wanted ++ (j, k) ∷ []) x × IsNewKey eq g out before x
-      fresh x h =
-          elim (Contains-append_cases are.more (first.0 ++ second.0) x h) [
-            | inl old ↦ let was = are.fresh x old in ((was.0.0, Contains-append_left wanted ((j, k) ∷ []) was.0.0 was.0.1, was.0.2), was.1)
-            | inr new ↦ (elim (Contains-append_cases first.0 second.0 x new) [
-              | inl of_first ↦ let r = first.2 x of_first in (one_more x (inl (sym r.0)), still_new before are.more x (subst (λ (ks : List Item). IsNewKey eq g out ks x) are.behind r.1))
-              | inr of_second ↦
-                  let r = second.2 x of_second in (
-                    one_more x (inr (sym r.0)),
-                    still_new before are.more x (subst (λ (ks : List Item). IsNewKey eq g out ks x) are.behind (still_new mid first.0 x (subst (λ (ks : List Item). IsNewKey eq g out ks x) first.1 r.1))),
-                  )
-            ])
-          ]
 
 -- each place is one of the keys
 pub ends_placed : (eq : Item → Item → Bool) (g : Graph Item) (out : List ℕ) (before keys : List Item) (wanted : List (Item × Item)) (ends : List (End × End)) → AreEnds eq g out before keys wanted ends → All (ArePlaced (length keys)) ends
@@ -174,37 +195,3 @@ ends_placed eq g out before keys wanted ends are =
     placed : (k : Item) (end : End) → IsEnd eq g out keys k end → IsPlaced (length keys) end
     placed k (Stays n) at = tt
     placed k (Comes place) at = slice_get_within keys place at.0 at.1
-
--- ---- look-ups
-
-module _ (eq : Item → Item → Bool) where
-  pub none_known : (keys : List Item) (k : Item) → list_any (eq k) keys ≡ true → look_ups eq keys k ≡ 0
-  none_known keys k told = ap (λ (b : Bool). cond b 0 1) told
-
-  pub one_new : (keys : List Item) (k : Item) → list_any (eq k) keys ≡ false → look_ups eq keys k ≡ 1
-  one_new keys k none = ap (λ (b : Bool). cond b 0 1) none
-
-  pub one_at_most : (keys : List Item) (k : Item) → look_ups eq keys k ≤ 1
-  one_at_most keys k = elim (cases_Bool (list_any (eq k) keys)) [ inl told ↦ let e = none_known keys k told in omega arith | inr none ↦ let e = one_new keys k none in omega arith ]
-
-  still_known : (keys more : List Item) (k : Item) → list_any (eq k) keys ≡ true → list_any (eq k) (keys ++ more) ≡ true
-  still_known keys more k told = list_any-append (eq k) keys more ∙ ap (λ (b : Bool). b || list_any (eq k) more) told
-
-  known_after : (g : Graph Item) (out : List ℕ) (before after : List Item) (k j : Item) (end : End) → Ends eq g out before after k end → list_any (eq j) before ≡ true → list_any (eq j) after ≡ true
-  known_after g out before after k j end is told =
-      elim is.keys [
-        | inl same ↦ subst (λ (ks : List Item). list_any (eq j) ks ≡ true) (sym same) told
-        | inr joined ↦ subst (λ (ks : List Item). list_any (eq j) ks ≡ true) (sym joined.0) (still_known before (k ∷ []) j told)
-      ]
-
-  -- of a link with a known end
-  pub one_of_both : (g : Graph Item) (out : List ℕ) (first before after : List Item) (wanted : List (Item × Item)) (ends : List (End × End)) (l : Item × Item) (end : End)
-      → AreEnds eq g out first before wanted ends → Ends eq g out before after l.0 end → IsKnown eq first l → look_ups eq before l.0 + look_ups eq after l.1 ≤ 1
-  one_of_both g out first before after wanted ends l end are is known =
-      let kept : (k : Item) → list_any (eq k) first ≡ true → list_any (eq k) before ≡ true = λ k told. subst (λ (ks : List Item). list_any (eq k) ks ≡ true) (sym are.behind) (still_known first are.more k told) in
-      let from = one_at_most before l.0 in
-      let to = one_at_most after l.1 in
-      elim known [
-        | inl told ↦ let none = none_known before l.0 (kept l.0 told) in omega arith
-        | inr told ↦ let none = none_known after l.1 (known_after g out before after l.0 l.1 end is (kept l.1 told)) in omega arith
-      ]

@@ -1,9 +1,8 @@
 -- Keys that are put in one by one, of which no two are the same.
-use Rattle.std.proofs.Common.{◌≡◌, Bool, true, false, ◌||◌, if◌then◌else◌, List, [], ◌∷◌, ◌++◌, inl, inr, refl, sym, ◌∙◌, ap, subst, append_assoc, ◌⊎◌}
+use Rattle.std.proofs.Common.{◌≡◌, Bool, true, false, ◌||◌, if◌then◌else◌, List, [], ◌∷◌, ◌++◌, inl, inr, refl, sym, ◌∙◌, ap, subst, append_assoc}
 use Rattle.std.specs.List.{Contains, fold, list_any}
 use Rattle.std.proofs.lemmas.Bool.{cases_Bool}
 use Rattle.std.proofs.lemmas.List.{append-nil}
-use Rattle.std.proofs.lemmas.List.Folds.{list_any-append}
 use Rattle.std.proofs.lemmas.List.Elements.{Contains-append_cases, Contains-append_left}
 use Rattle.finite_chains.proofs.Members.{Contains-cases, Contains-head, Contains-nil, Contains-tail}
 use Rattle.indexmap.specs.IndexSet.{insert_key}
@@ -32,26 +31,3 @@ module _ {K : Type 0} (eq : K → K → Bool) where
       ])
       (λ i j h there same. told i j (Contains-tail k ks i h) (subst (λ (l : List K). Contains l j) (append_assoc seen (k ∷ []) ks) there) same)
       ∙ append_assoc seen (k ∷ []) ks
-
-  -- each of them is found among the keys then
-  told_itself : (seen : List K) (k : K) → eq k k ≡ true → list_any (eq k) (insert_key eq seen k) ≡ true
-  told_itself seen k own =
-      elim (cases_Bool (list_any (eq k) seen)) [
-        | inl told ↦ ap (λ (b : Bool). list_any (eq k) (if b then seen else seen ++ k ∷ [])) told ∙ told
-        | inr none ↦ ap (λ (b : Bool). list_any (eq k) (if b then seen else seen ++ k ∷ [])) none ∙ list_any-append (eq k) seen (k ∷ []) ∙ ap (λ (b : Bool). b || list_any (eq k) (k ∷ [])) none ∙ ap (λ (b : Bool). b || false) own
-      ]
-
-  told_still : (seen : List K) (j k : K) → list_any (eq k) seen ≡ true → list_any (eq k) (insert_key eq seen j) ≡ true
-  told_still seen j k told =
-      elim (cases_Bool (list_any (eq j) seen)) [
-        | inl there ↦ ap (λ (b : Bool). list_any (eq k) (if b then seen else seen ++ j ∷ [])) there ∙ told
-        | inr none ↦ ap (λ (b : Bool). list_any (eq k) (if b then seen else seen ++ j ∷ [])) none ∙ list_any-append (eq k) seen (j ∷ []) ∙ ap (λ (b : Bool). b || list_any (eq k) (j ∷ [])) told
-      ]
-
-  pub told_among : (k : K) → eq k k ≡ true → (ks seen : List K) → Contains ks k ⊎ (list_any (eq k) seen ≡ true) → list_any (eq k) (fold (insert_key eq) seen ks) ≡ true
-  told_among k own [] seen is = elim is [ inl none ↦ absurd (Contains-nil k none) | inr told ↦ told ]
-  told_among k own (j ∷ ks) seen is =
-      told_among k own ks (insert_key eq seen j) (elim is [
-        | inl h ↦ (elim (Contains-cases j ks k h) [ inl e ↦ inr (subst (λ (i : K). list_any (eq k) (insert_key eq seen i) ≡ true) (sym e) (told_itself seen k own)) | inr later ↦ inl later ])
-        | inr told ↦ inr (told_still seen j k told)
-      ])

@@ -7,4 +7,5 @@ mod Outgoing
 mod Passing
 mod PlanFrom
 mod Planned
+mod Pushing
 mod Wanted

@@ -1,5 +1,5 @@
 -- Lists without repeats, lists made of others, and lists in turn.
-use Rattle.std.proofs.Common.{◌≡◌, ◌≢◌, ℕ, zero, suc, List, [], ◌∷◌, ◌++◌, length, map, get_or, slice_get, Some, inl, inr, refl, sym, ◌∙◌, ap, subst, arith}
+use Rattle.std.proofs.Common.{◌≡◌, ◌≢◌, ◌<◌, ℕ, zero, suc, List, [], ◌∷◌, ◌++◌, length, map, get_or, slice_get, Some, inl, inr, refl, sym, ◌∙◌, ap, subst, arith}
 use Rattle.std.specs.List.{AllPairs, AllZip, Contains, flat_map, zip}
 use Rattle.std.proofs.lemmas.List.Elements.{Contains-append_cases, Contains-append_left, Contains-append_right}
 use Rattle.std.proofs.lemmas.List.Kept.{AllPairs-cons}
@@ -115,11 +115,17 @@ module _ {X Y : Type 0} (R : X → Y → Type 0) where
         | inr later ↦ let r = zip_right xs ys all.1 y later in (r.0, Contains-tail x xs r.0 r.1, r.2)
       ]
 
-  pub zip_push : (xs : List X) (ys : List Y) (x : X) (y : Y) → AllZip R xs ys → R x y → AllZip R (xs ++ x ∷ []) (ys ++ y ∷ [])
-  zip_push [] [] x y all is = (is, tt)
-  zip_push [] (z ∷ ys) x y all is = absurd all
-  zip_push (z ∷ xs) [] x y all is = absurd all
-  zip_push (z ∷ xs) (w ∷ ys) x y all is = (all.0, zip_push xs ys x y all.1 is)
+  pub zip_append : (xs : List X) (ys : List Y) (zs : List X) (ws : List Y) → AllZip R xs ys → AllZip R zs ws → AllZip R (xs ++ zs) (ys ++ ws)
+  zip_append [] [] zs ws all more = more
+  zip_append [] (y ∷ ys) zs ws all more = absurd all
+  zip_append (x ∷ xs) [] zs ws all more = absurd all
+  zip_append (x ∷ xs) (y ∷ ys) zs ws all more = (all.0, zip_append xs ys zs ws all.1 more)
+
+  pub zip_read : (xs : List X) (ys : List Y) (i : ℕ) (d : X) (e : Y) → AllZip R xs ys → i < length xs → R (get_or xs i d) (get_or ys i e)
+  zip_read [] ys i d e all below = absurd (omega arith)
+  zip_read (x ∷ xs) [] i d e all below = absurd all
+  zip_read (x ∷ xs) (y ∷ ys) zero d e all below = all.0
+  zip_read (x ∷ xs) (y ∷ ys) (suc i) d e all below = zip_read xs ys i d e all.1 (omega arith)
 
   -- images of the second list differ where elements of the first do
   pub zip_apart : {Z : Type 0} (f : Y → Z) (xs : List X) (ys : List Y) → AllZip R xs ys → ((x w : X) (y z : Y) → Contains xs x → Contains xs w → R x y → R w z → f y ≡ f z → x ≡ w) → Apart xs → Apart (map f ys)

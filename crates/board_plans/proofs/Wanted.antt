@@ -61,7 +61,7 @@ links_are : (a : Arrival) → links_by a ≡ (to a ++ from a) ++ adding a
 unfolding to from adding
 links_are a = refl
 
-pub of_links : (a : Arrival) (l : Item × Item) → Contains (links_by a) l → IsTo a l ⊎ (IsFrom a l ⊎ IsAdding a l)
+of_links : (a : Arrival) (l : Item × Item) → Contains (links_by a) l → IsTo a l ⊎ (IsFrom a l ⊎ IsAdding a l)
 of_links a l h =
     elim (Contains-append_cases (to a ++ from a) (adding a) l (subst (λ (ls : List (Item × Item)). Contains ls l) (links_are a) h)) [
       | inl topics ↦ (elim (Contains-append_cases (to a) (from a) l topics) [ inl one ↦ inl (is_to a l one) | inr other ↦ inr (inl (is_from a l other)) ])

@@ -1,6 +1,6 @@
 -- Where keys are once numbers went out: at numbers that stay, or among the keys that come in.
-use Rattle.std.specs.Prelude.{◌≡◌, ◌≢◌, ◌⊎◌, ◌++◌, ℕ, Bool, true, cond, List, [], ◌∷◌, Some, slice_get}
-use Rattle.std.specs.List.{AllPairs, AllZip, Contains, list_any}
+use Rattle.std.specs.Prelude.{◌≡◌, ◌≢◌, ◌⊎◌, ◌++◌, ℕ, Bool, true, List, [], ◌∷◌, Some, slice_get}
+use Rattle.std.specs.List.{AllPairs, AllZip, Contains}
 use Rattle.item_index.specs.Graphs.{Graph, HasKey}
 use Rattle.cat_items.specs.declared.item.Item.{Item}
 use Rattle.graph_changes.specs.declared.ends.End.{End}
@@ -29,14 +29,6 @@ module _ (eq : Item → Item → Bool) where
   IsEnd g out keys k (Stays n) = IsStaying g out k n × (Contains keys k → ⊥)
   IsEnd g out keys k (Comes place) = IsPlaceOf keys k place
 
-  -- how many look-ups it takes to find the key: none among these
-  abbrev pub look_ups : List Item → Item → ℕ
-  look_ups keys k = cond (list_any (eq k) keys) 0 1
-
-  -- an end of the link is among these
-  abbrev pub IsKnown : List Item → Item × Item → Type 0
-  IsKnown keys l = (list_any (eq l.0) keys ≡ true) ⊎ (list_any (eq l.1) keys ≡ true)
-
   -- the key is there, among keys that it joined where it was nowhere
   pub record Ends (g : Graph Item) (out : List ℕ) (before after : List Item) (k : Item) (end : End) : Type 0 where
     pub at : IsEnd g out after k end
@@ -49,3 +41,9 @@ module _ (eq : Item → Item → Bool) where
     pub fresh : (k : Item) → Contains more k → IsEndAmong wanted k × IsNewKey g out before k
     pub once : AllPairs (λ j k. j ≢ k) before → AllPairs (λ j k. j ≢ k) after
     pub at : AllZip (λ l e. IsEnd g out after l.0 e.0 × IsEnd g out after l.1 e.1) wanted ends
+
+  -- of these links the ends were pushed, and keys joined for them
+  pub record ArePushed (g : Graph Item) (out : List ℕ) (before after : List Item) (wanted : List (Item × Item)) (old new : List (End × End)) : Type 0 where
+    pub ends : List (End × End)
+    pub pushed : new ≡ old ++ ends
+    pub are : AreEnds g out before after wanted ends

@@ -11,7 +11,7 @@ ghost use Rattle.board_plans.specs.Arrivals.{links_by};
 ghost use Rattle.board_plans.specs.Leaving.{AreOutgoing, look_ups};
 ghost use Rattle.board_plans.specs.Planning.{CanPlan};
 
-use crate::arrivals::{Arrival, keys_of_all, links_by_all};
+use crate::arrivals::{Arrival, keys_of_all};
 use crate::ends::ends_of;
 use crate::leaving::outgoing;
 use cat_items::Item;
@@ -55,9 +55,16 @@ pub fn plan_of<L: Ledger>(
     ensures few { steps.new ≤ steps.old + sum_by (look_ups board.now touched.now.keys) touched.now.keys + sum_by (λ a. length (links_by a)) arrivals.now }
 {
     let out = outgoing(alloc, board, touched, steps)?;
-    let mut keys = keys_of_all(alloc, arrivals)?;
-    let wanted = links_by_all(alloc, arrivals)?;
-    let links = ends_of(alloc, board, &out, &mut keys, wanted.as_slice(), steps)?;
+    let (mut keys, places) = keys_of_all(alloc, arrivals)?;
+    let links = ends_of(
+        alloc,
+        board,
+        &out,
+        arrivals,
+        places.as_slice(),
+        &mut keys,
+        steps,
+    )?;
     Ok(Plan {
         out: listed(alloc, out)?,
         keys: listed(alloc, keys)?,

@@ -1,10 +1,10 @@
-use Rattle.std.proofs.Common.{◌∙◌, ap, subst, sym, arith}
+use Rattle.std.proofs.Common.{◌∙◌, ap, subst, sym}
 use Rattle.cat_items.specs.declared.item.Item.{Item}
 use Rattle.cat_items.specs.contracts.item.ItemPartialEq.TheImpl as same
 use Rattle.cat_items.specs.contracts.item.ItemEq.TheImpl.Laws as laws
 use Rattle.indexmap.specs.IndexSet.{insert_key}
 use Rattle.board_plans.specs.Ends.{IsPlaceOf}
-use Rattle.board_plans.proofs.Finding.{found_among, found_new, found_staying, gone_all, gone_told, one_new}
+use Rattle.board_plans.proofs.Finding.{found_among, found_new, found_staying, gone_all, gone_told}
 use Rattle.board_plans.proofs.ends.end_of.Goals as goal
 use Rattle.board_plans.proofs.ends.end_of.Goals.{in-Some-node+else-not-contains, in_default-node}
 
@@ -28,27 +28,3 @@ returns-clause-end g c =
           gone_told same.ghosts.eq laws.laws-law c.args.board.now c.args.out.now.keys w.in-Some-node.ensures.whole c.args.key.now w.in-Some-node.number w.in-Some-node.ensures.found (sym w.if-not-contains.ensures)
       | in_default-node w ↦ gone_all same.ghosts.eq laws.laws-law c.args.board.now c.args.out.now.keys c.args.key.now (sym w.in_default-node.ensures.node)
     ])
-
-pub returns-then-not-contains-clause-few : goal.returns-then-not-contains-clause-few
-returns-then-not-contains-clause-few g c =
-    let one = one_new same.ghosts.eq c.args.keys.now.keys c.args.key.now (sym c.in_default.ensures.found) in
-    let ticks = c.node.ensures.ticks in
-    omega (arith, one, ticks)
-
-pub returns-in_err-copy-clause-few : goal.returns-in_err-copy-clause-few
-returns-in_err-copy-clause-few g c =
-    let one = one_new same.ghosts.eq c.args.keys.now.keys c.args.key.now (sym c.in_default.ensures.found) in
-    let ticks = c.node.ensures.ticks in
-    omega (arith, one, ticks)
-
-pub returns-in_err-place-clause-few : goal.returns-in_err-place-clause-few
-returns-in_err-place-clause-few g c =
-    let one = one_new same.ghosts.eq c.args.keys.now.keys c.args.key.now (sym c.in_default.ensures.found) in
-    let ticks = c.node.ensures.ticks in
-    omega (arith, one, ticks)
-
-pub returns-clause-few : goal.returns-clause-few
-returns-clause-few g c =
-    let one = one_new same.ghosts.eq c.args.keys.now.keys c.args.key.now (sym c.in_default.ensures.found) in
-    let ticks = c.node.ensures.ticks in
-    omega (arith, one, ticks)
