@@ -7,6 +7,7 @@ mod growing;
 mod helpers;
 mod rounds;
 mod schemas;
+mod speakers;
 mod telling;
 mod under;
 

@@ -13,11 +13,13 @@ use crate::asking::asked_by;
 use crate::beginning::begun;
 use crate::growing::put_copies;
 use crate::schemas::schema_keys;
+use crate::speakers::speakers;
 use crate::telling::ask_again;
 use crate::under::items_under;
 use cat_items::{Catalogue, Item};
 use indexmap::IndexSet;
 use item_index::{Index, Steps};
+use item_lists::without;
 use std::alloc::{AllocError, Global};
 use std::hash::BuildHasher;
 use std::sync::ledger::Ledger;
@@ -52,28 +54,30 @@ fn look_up<S: BuildHasher + Drop, L: Ledger>(
     Ok(grew && ask_again(part, suspects.items(), found.items()))
 }
 
-/// Puts in what is asked for over the part, and wasn't yet: whether more may be asked for by it.
+/// Puts in what these of the suspects ask for over the part, and that wasn't asked for yet: whether more may be asked for by it.
 fn round<S: BuildHasher + Drop, L: Ledger>(
     alloc: Global,
     board: &Index<Item, S>,
     marks: &IndexSet<usize>,
     suspects: &Catalogue,
+    asking: &[Item],
     part: &mut Catalogue,
     asked: &mut Catalogue,
     steps: &mut Steps<L>,
 ) -> Result<bool, AllocError>
+    requires asking { IsWithin asking.now suspects.now.items }
     requires apart { AreApart board.now marks.now.keys suspects.now.items }
     requires way { IsUnderWay board.now marks.now.keys suspects.now.items part.old.items asked.old.items }
     ensures way { OnOk result (IsUnderWay board.now marks.now.keys suspects.now.items part.new.items asked.new.items) }
-    ensures closed { IfOk result (λ more. more ≡ false → IsClosed board.now marks.now.keys suspects.now.items part.new.items) }
+    ensures closed { IsWithin suspects.now.items asking.now → IfOk result (λ more. more ≡ false → IsClosed board.now marks.now.keys suspects.now.items part.new.items) }
     ensures more { IfOk result (λ more. more ≡ true → length part.old.items < length part.new.items) }
     ensures least { OnOk result (IsLeast board.now marks.now.keys suspects.now.items part.old.items → IsLeast board.now marks.now.keys suspects.now.items part.new.items) }
     ensures spent { OnOk result (steps.new + sum_by (look_ups board.now) asked.old.items ≤ steps.old + sum_by (look_ups board.now) asked.new.items) }
     ensures few { (p keys : List Item) → IsLeast board.now marks.now.keys suspects.now.items part.old.items → IsClosed board.now marks.now.keys suspects.now.items p → HasAsked p suspects.now.items keys
         → steps.new + sum_by (look_ups board.now) asked.old.items ≤ steps.old + sum_by (look_ups board.now) keys }
 {
-    let mut keys = asked_by(alloc, part, suspects.items())?;
-    keys.take_out_all(asked.items());
+    let all = asked_by(alloc, part, asking)?;
+    let keys = without(alloc, all.items(), asked.items())?;
     look_up(alloc, board, marks, suspects, keys, part, asked, steps)
 }
 
@@ -105,7 +109,27 @@ pub fn ask_more<S: BuildHasher + Drop, L: Ledger>(
     put_copies(alloc, part, first.items())?;
     let schemas = schema_keys(alloc, more.items(), asked)?;
     look_up(alloc, board, marks, suspects, schemas, part, asked, steps)?;
-    while round(alloc, board, marks, suspects, part, asked, steps)? {}
+    let asking = speakers(alloc, more.items())?;
+    while round(
+        alloc,
+        board,
+        marks,
+        suspects,
+        asking.as_slice(),
+        part,
+        asked,
+        steps,
+    )? {}
+    while round(
+        alloc,
+        board,
+        marks,
+        suspects,
+        suspects.items(),
+        part,
+        asked,
+        steps,
+    )? {}
     Ok(())
 }
 

@@ -1,6 +1,7 @@
 use Rattle.std.proofs.Common.{◌≡◌, ◌↔◌, ◌⊎◌, ◌∙◌, inr, ℕ, List, ap, arith, length, subst, sym}
 use Rattle.std.specs.List.{Contains}
 use Rattle.std.proofs.lemmas.Bool.{eqb-true}
+use Rattle.finite_chains.specs.Chains.{IsWithin}
 use Rattle.item_index.specs.Graphs.{Graph}
 use Rattle.cat_items.specs.declared.item.Item.{Item}
 use Rattle.topic_keys.specs.Lists.{Gets}
@@ -67,8 +68,8 @@ returns-in_err-look_up-clause-ticks g c =
     let least = least_more _ _ _ _ _ _ c.requires.before c.in_ok-first.first.items are c.put_copies.new.part.items gets in
     λ p keys closed has. omega (arith, c.look_up.ensures.few p keys least closed has, c.begun.ensures.ticks, ap length c.items-3.ensures.items)
 
-pub loop-first-init : goal.loop-first-init
-loop-first-init g c =
+pub loop-asking-init : goal.loop-asking-init
+loop-asking-init g c =
     let are = first_equal c.args.board.now c.args.marks.now.keys _ c.args.more.now.items c.in_ok-first.first.items c.items-3.ensures.items c.in_ok-first.ensures.members in
     let gets = gets_equal _ c.in_ok-first.first.items c.args.part.now.items c.put_copies.new.part.items c.items-4.ensures.items c.in_ok-put_copies.ensures.members in
     record {
@@ -77,19 +78,58 @@ loop-first-init g c =
       spent = omega (arith, c.in_ok-look_up.ensures.spent, c.begun.ensures.ticks, ap length c.items-3.ensures.items);
     }
 
-pub returns-in_err-round-clause-ticks : goal.returns-in_err-round-clause-ticks
-returns-in_err-round-clause-ticks g c = λ p keys closed has. omega (arith, c.loop-first.invariant.spent, c.round.ensures.few p keys c.loop-first.invariant.least closed has)
+pub returns-in_err-asking-clause-ticks : goal.returns-in_err-asking-clause-ticks
+returns-in_err-asking-clause-ticks g c =
+    let are = first_equal c.args.board.now c.args.marks.now.keys _ c.args.more.now.items c.in_ok-first.first.items c.items-3.ensures.items c.in_ok-first.ensures.members in
+    let gets = gets_equal _ c.in_ok-first.first.items c.args.part.now.items c.put_copies.new.part.items c.items-4.ensures.items c.in_ok-put_copies.ensures.members in
+    let least = least_more _ _ _ _ _ _ c.requires.before c.in_ok-first.first.items are c.put_copies.new.part.items gets in
+    λ p keys closed has. omega (arith, c.look_up.ensures.few p keys least closed has, c.begun.ensures.ticks, ap length c.items-3.ensures.items)
 
-pub loop-first-smaller : goal.loop-first-smaller
-loop-first-smaller g c =
+pub round-requires-clause-asking : goal.round-requires-clause-asking
+round-requires-clause-asking g c = λ x h. (c.requires.before.2 x).1 (inr (subst (λ l. Contains l x) c.items-6.ensures.items (c.in_ok-asking.ensures x (subst (λ l. Contains l x) c.as_slice.ensures.value h))))
+
+pub returns-in_err-round-clause-ticks : goal.returns-in_err-round-clause-ticks
+returns-in_err-round-clause-ticks g c = λ p keys closed has. omega (arith, c.loop-asking.invariant.spent, c.round.ensures.few p keys c.loop-asking.invariant.least closed has)
+
+pub loop-asking-smaller : goal.loop-asking-smaller
+loop-asking-smaller g c =
     let more = c.in_ok-round.ensures.more c.if-branch.true in
     let fits = within_room c.args.board.now c.args.marks.now.keys c.args.suspects.now.items c.round.new.part.items c.round.new.asked.items c.in_ok-round.ensures.way in
     omega (arith, more, fits)
 
+pub round-requires-in-loop-asking-2-clause-asking : goal.round-requires-in-loop-asking-2-clause-asking
+round-requires-in-loop-asking-2-clause-asking g c = λ x h. subst (λ l. Contains l x) c.items-in-loop-asking-2.ensures.items h
+
+pub returns-in_err-round-2-clause-ticks : goal.returns-in_err-round-2-clause-ticks
+returns-in_err-round-2-clause-ticks g c = λ p keys closed has. omega (arith, c.loop-asking-2.invariant.spent, c.round-in-loop-asking-2.ensures.few p keys c.loop-asking-2.invariant.least closed has)
+
+pub loop-asking-2-preserved : goal.loop-asking-2-preserved
+loop-asking-2-preserved g c = record {
+  way = c.in_ok-round-2.ensures.way;
+  least = c.in_ok-round-2.ensures.least c.loop-asking-2.invariant.least;
+  spent = omega (arith, c.loop-asking-2.invariant.spent, c.in_ok-round-2.ensures.spent);
+}
+
+pub loop-asking-2-smaller : goal.loop-asking-2-smaller
+loop-asking-2-smaller g c =
+    let more = c.in_ok-round-2.ensures.more c.if-branch-2.true in
+    let fits = within_room c.args.board.now c.args.marks.now.keys c.args.suspects.now.items c.round-in-loop-asking-2.new.part.items c.round-in-loop-asking-2.new.asked.items c.in_ok-round-2.ensures.way in
+    omega (arith, more, fits)
+
+all_ask : (suspects shown : List Item) → shown ≡ suspects → IsWithin suspects shown
+all_ask suspects shown e x h = subst (λ l. Contains l x) (sym e) h
+
+pub returns-clause-asked : goal.returns-clause-asked
+returns-clause-asked g c = record {
+  way = c.in_ok-round-2.ensures.way;
+  closed = c.in_ok-round-2.ensures.closed (all_ask _ _ c.items-in-loop-asking-2.ensures.items) c.if-branch-2.false;
+  least = c.in_ok-round-2.ensures.least c.loop-asking-2.invariant.least;
+}
+
 pub returns-clause-part : goal.returns-clause-part
 returns-clause-part g c =
-    let way = c.in_ok-round.ensures.way in
-    λ cat no full. part_closed c.args.board.now cat no full c.args.marks.now.keys c.args.suspects.now.items c.round.new.part.items way.order way.from (c.in_ok-round.ensures.closed c.if-branch.false)
+    let way = c.in_ok-round-2.ensures.way in
+    λ cat no full. part_closed c.args.board.now cat no full c.args.marks.now.keys c.args.suspects.now.items c.round-in-loop-asking-2.new.part.items way.order way.from (c.in_ok-round-2.ensures.closed (all_ask _ _ c.items-in-loop-asking-2.ensures.items) c.if-branch-2.false)
 
 pub returns-clause-ticks : goal.returns-clause-ticks
-returns-clause-ticks g c = λ p keys closed has. omega (arith, c.loop-first.invariant.spent, c.round.ensures.few p keys c.loop-first.invariant.least closed has)
+returns-clause-ticks g c = λ p keys closed has. omega (arith, c.loop-asking-2.invariant.spent, c.round-in-loop-asking-2.ensures.few p keys c.loop-asking-2.invariant.least closed has)
