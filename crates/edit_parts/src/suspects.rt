@@ -204,10 +204,10 @@ fn ask_for_rights<S: BuildHasher + Drop, L: Ledger>(
     ensures ticks { (all p keys : List Item) → (IsWithin start.now.items all × IsWithin suspects.now.items all) → IsClosed board.now marks.now.keys all p → HasAsked p all keys
         → steps.new + (length start.now.items + sum_by (look_ups board.now) asked.keys.items) ≤ steps.old + (length all + sum_by (look_ups board.now) keys) }
 {
-    let mut part = part_of_both(alloc, board, marks, start, rights, suspects, asked, steps)?;
+    let part = part_of_both(alloc, board, marks, start, rights, suspects, asked, steps)?;
     let gone = without(alloc, rights.items(), suspects.items())?;
-    part.take_out_all(gone.items());
-    Ok(part)
+    let left = without(alloc, part.items(), gone.items())?;
+    Ok(left)
 }
 
 /// The suspects of an edit, and the part of the edited catalogue over which they are judged.
