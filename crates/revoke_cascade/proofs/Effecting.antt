@@ -20,13 +20,13 @@ lost_in_turn old beside left lost found edit one two three = record {
   );
 }
 
-pub gained_in_turn : (suspects standing new gained old found : List Item) (edit : Edit) → AreChosen suspects (StandsAs true found) standing → AreChosen standing (StandsAs false old) new → AreChosen new (StandsAs false edit.added) gained
+pub gained_in_turn : (suspects new standing gained old found : List Item) (edit : Edit) → AreChosen suspects (StandsAs false old) new → AreChosen new (StandsAs true found) standing → AreChosen standing (StandsAs false edit.added) gained
     → AreGainedOf suspects old edit found gained
-gained_in_turn suspects standing new gained old found edit one two three = record {
+gained_in_turn suspects new standing gained old found edit one two three = record {
   order = three.order;
   members = λ x. (
-    λ h. let c = (three.members x).0 h in let b = (two.members x).0 c.0 in let a = (one.members x).0 b.0 in (a.0, (a.1, b.1, c.1)),
-    λ h. (three.members x).1 ((two.members x).1 ((one.members x).1 (h.0, h.1.0), h.1.1), h.1.2),
+    λ h. let c = (three.members x).0 h in let b = (two.members x).0 c.0 in let a = (one.members x).0 b.0 in (a.0, (b.1, a.1, c.1)),
+    λ h. (three.members x).1 ((two.members x).1 ((one.members x).1 (h.0, h.1.1), h.1.0), h.1.2),
   );
 }
 

@@ -8,6 +8,7 @@ use Rattle.cat_items.specs.declared.edit.Edit.{Edit}
 use Rattle.cat_items.specs.declared.item.Item.{Item}
 use Rattle.cat_items.specs.contracts.item.ItemPartialEq.TheImpl as same
 use Rattle.cat_items.specs.Catalogues.{IsInOrder}
+use Rattle.cat_items.specs.Edits.{IsNew}
 use Rattle.cat_items.specs.Fit.{IsFit}
 use Rattle.cat_items.specs.Good.{IsGood}
 use Rattle.cat_items.specs.Survivors.{IsWithSystem}
@@ -22,12 +23,15 @@ use Rattle.part_rescue.specs.Rescued.{AreRescued}
 use Rattle.board_plans.specs.declared.arrivals.Arrival.{Arrival}
 use Rattle.board_plans.specs.declared.plan.Plan.{Plan}
 use Rattle.board_plans.specs.Planning.{AreArrivals, CanPlan}
+use Rattle.board_changes.specs.Readiness.{IsPlanned}
 use Rattle.board_steps.specs.Plans.{IsPlanOf}
 use Rattle.graph_changes.specs.Ends.{links_of}
 use Rattle.edit_rules.specs.Chosen.{AreChosen}
+use Rattle.catalogue_changes.specs.Effects.{AreEffects, IsMadeBy}
+use Rattle.catalogue_changes.specs.declared.effects.Effects.{Effects}
 use Rattle.edit_arrivals.specs.Suspects.{IsFoundBy}
 use Rattle.finite_chains.specs.Chains.{IsWithin}
-use Rattle.revoke_cascade.specs.Prepared.{AreKnown, IsEditOn, IsFoundIn, IsJudgement, IsFitOn, FitsSome, IsOutcome, Tells}
+use Rattle.revoke_cascade.specs.Prepared.{AreKnown, IsEditOn, IsFoundIn, IsJudgement, IsFitOn, FitsSome, Tells}
 use Rattle.revoke_cascade.proofs.Known.{fresh_rights}
 use Rattle.revoke_cascade.proofs.Judged.{can_plan, found_by, is_planned, makes_new, tells}
 use Rattle.revoke_cascade.proofs.Rights.{with_system}
@@ -97,8 +101,27 @@ Arrive found suspects arrivals = (c all edited f part standing : List Item) (edi
 abbrev pub Plans : Graph Item → List ℕ → List Arrival → Plan → Type 0
 Plans g marks arrivals plan = (c new : List Item) (suspect : Item → Bool) → CanPlan same.ghosts.eq g c new suspect marks arrivals → IsPlanOf g c new suspect plan.out.items plan.keys.items (links_of g plan.out.items plan.keys.items plan.links.items)
 
+-- The edit makes a new catalogue, of which what was found tells.
+pub told : (g : Graph Item) (edit : Edit) (marks : List ℕ) (suspects found : List Item) → Judges g edit marks suspects found → (c edited : List Item) → IsFitOn g c edited edit → (new : List Item) × IsNew c edit new × Tells c edit suspects found new
+told g edit marks suspects found judges c edited fits =
+    let all = fit_on g c edited edit fits in
+    let f = all.0 in
+    let fresh = fresh_rights g c edited f edit all.1 in
+    let is = judges c edited f fresh.0 all.1 fresh.1 in
+    let to = makes_new g c edited f edit marks fresh.0 suspects is.0 is.1 is.2 in (
+      to.0,
+      to.1,
+      subst (λ l. Tells c edit suspects l to.0) (sym is.3) (tells g c edited f edit marks fresh.0 suspects is.0 is.1 is.2 to.0 to.1),
+    )
+
+-- So it is, and the plan makes its board.
+pub record MakesPlan (g : Graph Item) (c : List Item) (edit : Edit) (new : List Item) (plan : Plan) (suspects found : List Item) : Type 0 where
+  pub made : IsNew c edit new
+  pub planned : (suspect : Item → Bool) × IsPlanned same.ghosts.eq g c new suspect plan
+  pub tells : Tells c edit suspects found new
+
 pub outcome : (g : Graph Item) (edit : Edit) (marks : List ℕ) (suspects found : List Item) (arrivals : List Arrival) (plan : Plan) → Judges g edit marks suspects found → Arrive found suspects arrivals → Plans g marks arrivals plan
-    → (c edited : List Item) → IsFitOn g c edited edit → (new : List Item) × IsOutcome g c edit new plan suspects found
+    → (c edited : List Item) → IsFitOn g c edited edit → (new : List Item) × MakesPlan g c edit new plan suspects found
 outcome g edit marks suspects found arrivals plan judges arrive plans c edited fits =
     let all = fit_on g c edited edit fits in
     let f = all.0 in
@@ -121,5 +144,9 @@ outcome g edit marks suspects found arrivals plan judges arrive plans c edited f
 
 -- the same, of arrivals that are lent
 pub outcome_lent : (g : Graph Item) (edit : Edit) (marks : List ℕ) (suspects found : List Item) (lent arrivals : List Arrival) (plan : Plan) → lent ≡ arrivals → Judges g edit marks suspects found → Arrive found suspects arrivals → Plans g marks lent plan
-    → (c edited : List Item) → IsFitOn g c edited edit → (new : List Item) × IsOutcome g c edit new plan suspects found
+    → (c edited : List Item) → IsFitOn g c edited edit → (new : List Item) × MakesPlan g c edit new plan suspects found
 outcome_lent g edit marks suspects found lent arrivals plan value judges arrive plans = outcome g edit marks suspects found arrivals plan judges arrive (subst (λ l. Plans g marks l plan) value plans)
+
+-- an edit that fits, with its new catalogue and its effects
+pub made_on : (g : Graph Item) (c edited new : List Item) (edit : Edit) (effects : Effects) → IsFitOn g c edited edit → IsNew c edit new → AreEffects c edit new effects → IsMadeBy c edited edit new effects
+made_on g c edited new edit effects fits made does = record { order = fits.good.survivors.order; fit = fits.fit; is_new = made; has_effects = does }

@@ -7,7 +7,6 @@ use Rattle.cat_items.specs.declared.edit.Edit.{Edit}
 use Rattle.cat_items.specs.declared.item.Item.{Item}
 use Rattle.cat_items.specs.contracts.item.ItemPartialEq.TheImpl as same
 use Rattle.cat_items.specs.Bound.{IsSpokenOf}
-use Rattle.cat_items.specs.Edits.{IsNew}
 use Rattle.cat_items.specs.Fit.{IsFit}
 use Rattle.cat_items.specs.Good.{IsGood}
 use Rattle.cat_items.specs.Survivors.{IsSystemRight, IsWithSystem}
@@ -20,8 +19,6 @@ use Rattle.asked_parts.specs.Parts.{HasAsked, IsPartOf}
 use Rattle.asked_parts.specs.Under.{look_ups}
 use Rattle.edit_parts.specs.Parts.{HasAllTouched}
 use Rattle.part_rescue.specs.Rescued.{AreRescued}
-use Rattle.board_plans.specs.declared.plan.Plan.{Plan}
-use Rattle.board_changes.specs.Readiness.{IsPlanned}
 use Rattle.cascade_bound.specs.Missing.{MissesNothing}
 
 -- The board is that of a good catalogue that the edit fits, and f is what the edit makes of it, with the rights that the system could grant.
@@ -75,12 +72,6 @@ pub record Tells (c : List Item) (edit : Edit) (suspects found new : List Item) 
   -- what was found is a suspect, or old
   pub only : (x : Item) → Contains found x → Contains suspects x ⊎ Contains c x
   pub added : IsWithin edit.added suspects
-
--- The edit makes a new catalogue, which has what was found, and the plan makes its board.
-pub record IsOutcome (g : Graph Item) (c : List Item) (edit : Edit) (new : List Item) (plan : Plan) (suspects found : List Item) : Type 0 where
-  pub made : IsNew c edit new
-  pub planned : (suspect : Item → Bool) × IsPlanned same.ghosts.eq g c new suspect plan
-  pub tells : Tells c edit suspects found new
 
 -- whatever the edit makes of the catalogue, nothing is missing that its added items ask for
 abbrev pub NothingIsMissing : List Item → Edit → Type 0

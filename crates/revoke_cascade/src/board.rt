@@ -1,6 +1,6 @@
 //! Boards: the graphs of catalogues.
 
-ghost use Rattle.std.specs.Prelude.{◌≡◌, ◌+◌, ◌≤◌, ℕ, Bool, IfOk, List, OnOk};
+ghost use Rattle.std.specs.Prelude.{◌≡◌, ◌+◌, ◌≤◌, ℕ, Bool, IfOk, IfSome, List, OnOk};
 ghost use Rattle.item_index.specs.Graphs.{AreLinks, Graph, no_graph, with_spare};
 ghost use Rattle.item_index.specs.Undo.{IsAsBefore};
 ghost use Rattle.cat_items.specs.contracts.item.ItemPartialEq.TheImpl as same;
@@ -14,7 +14,7 @@ ghost use Rattle.board_changes.specs.Left.{IsAsLeft};
 ghost use Rattle.board_changes.specs.Readiness.{IsPlanned, IsReady, TakesBack};
 ghost use Rattle.board_steps.specs.Plans.{IsFullBoard};
 ghost use Rattle.revoke_cascade.specs.Boards.{IsBoardOf, IsStillTaken, IsTaken, adds};
-ghost use Rattle.revoke_cascade.specs.Prepared.{IsOutcome};
+ghost use Rattle.revoke_cascade.specs.Outcomes.{IsOutcome, plan_in};
 
 use crate::cascade::Taken;
 use crate::preparing::{Prepared, prepare_on};
@@ -84,8 +84,13 @@ fn fill<L: Ledger>(
     let edit = adding(alloc, c)?;
     index.keeps_whole();
     let nothing = Catalogue::of_sorted(Vec::new(alloc));
-    let prepared = prepare_on(alloc, index, &nothing, &edit, &mut steps)?;
-    let _ = run(index, prepared.ready);
+    let Prepared { ready: made, .. } = prepare_on(
+        alloc, index, &nothing, &edit, false, &mut steps,
+    )?;
+    let Some(ready) = made else {
+        unreachable!();
+    };
+    let _ = run(index, ready);
     Ok(())
 }
 
@@ -100,23 +105,24 @@ impl Board {
         Ok(Board { index })
     }
 
-    /// Makes an edit ready.
+    /// Makes an edit ready, unless it is restricted and goes further than its target.
     pub(crate) fn prepare<L: Ledger>(
         &mut self,
         alloc: Global,
         c: &Catalogue,
         edit: &Edit,
+        restricted: bool,
         steps: &mut Steps<L>,
     ) -> Result<Prepared, AllocError>
         requires { (edited : List Item) × IsGood c.now.items × Holds self.old c.now.items × IsFit c.now.items edit.now edited }
         ensures board { self.new ≡ with_spare self.old self.new.spare_keys self.new.spare_links }
         ensures grown { (self.old.spare_keys ≤ self.new.spare_keys) × (self.old.spare_links ≤ self.new.spare_links) }
-        ensures ready { IfOk result (λ prepared. IsReady same.ghosts.eq self.new prepared.ready) }
-        ensures outcome { IfOk result (λ prepared. (edited : List Item) → IsGood c.now.items → Holds self.old c.now.items → IsFit c.now.items edit.now edited → (new : List Item) × IsOutcome self.new c.now.items edit.now new prepared.ready.plan prepared.suspects.items prepared.found.items) }
+        ensures ready { IfOk result (λ prepared. IfSome prepared.ready (IsReady same.ghosts.eq self.new)) }
+        ensures outcome { IfOk result (λ prepared. (edited : List Item) → IsGood c.now.items → Holds self.old c.now.items → IsFit c.now.items edit.now edited → (new : List Item) × IsOutcome self.new c.now.items edit.now restricted new prepared.effects (plan_in prepared.ready)) }
         ensures few { (edited : List Item) (bound : ℕ) → IsGood c.now.items → Holds self.old c.now.items → IsFit c.now.items edit.now edited → IsBound c.now.items edit.now edited bound → steps.new ≤ steps.old + bound }
     {
         self.index.keeps_whole();
-        prepare_on(alloc, &mut self.index, c, edit, steps)
+        prepare_on(alloc, &mut self.index, c, edit, restricted, steps)
     }
 
     /// Carries out what is ready.

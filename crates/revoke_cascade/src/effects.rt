@@ -42,9 +42,9 @@ fn gained_of(
     requires added { IsInOrder edit.now.added }
     ensures { IfOk result (λ gained. AreGainedOf suspects.now.items old.now edit.now found.now.items gained.items) }
 {
-    let standing = chosen_as(alloc, suspects.items(), true, found.items())?;
-    let new = chosen_as(alloc, standing.as_slice(), false, old)?;
-    let gained = chosen_as(alloc, new.as_slice(), false, edit.added.as_slice())?;
+    let new = chosen_as(alloc, suspects.items(), false, old)?;
+    let standing = chosen_as(alloc, new.as_slice(), true, found.items())?;
+    let gained = chosen_as(alloc, standing.as_slice(), false, edit.added.as_slice())?;
     Ok(gained)
 }
 

@@ -9,7 +9,7 @@ mod laws;
 mod preparing;
 
 pub use board::Board;
-pub use cascade::{Cascade, Taken};
+pub use cascade::{Cascade, Taken, Tried};
 pub use laws::{
     a_run_can_still_be_taken_back, fresh_rights_can_be_listed,
     suspects_are_apart_from_what_is_kept, touched_numbers_are_nodes, what_a_cascade_finds_stands,
