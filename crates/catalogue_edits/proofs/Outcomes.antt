@@ -1,5 +1,6 @@
 -- What comes of edits.
-use Rattle.std.proofs.Common.{◌≡◌, ◌<◌, ◌≤◌, ℕ, Bool, List, [], ◌∷◌, Option, Some, None, Result, Ok, Err, length, ap, subst, refl, inl, inr, arith}
+use Rattle.std.proofs.Common.{◌≡◌, ◌<◌, ◌≤◌, ℕ, Bool, true, false, List, [], ◌∷◌, Option, Some, None, Result, Ok, Err, length, ap, subst, refl, inl, inr, arith}
+use Rattle.std.specs.Option.{is_some}
 use Rattle.std.specs.Result.{IsErrAnd}
 use Rattle.sql_tree.specs.declared.statement.Statement.{Statement}
 use Rattle.cat_items.specs.declared.edit.Edit.{Edit}
@@ -40,6 +41,16 @@ nothing_further c edit new by_rights is none =
 pub something_further : (c : List Item) (edit : Edit) (new : List Item) (by_rights : Bool) (x copy : Item) → IsNew c edit new → IsLeastFurther c edit new x → copy ≡ x
     → First (still_needed c (Some by_rights) edit ∷ []) (StillNeeded copy by_rights)
 something_further c edit new by_rights x copy is least e = inl (new, is, (x, least, ap (λ y. StillNeeded y by_rights) e))
+
+-- what goes further is refused where the behaviour is RESTRICT
+pub further_refused : (c : List Item) (edit : Edit) (new : List Item) (restrict : Option Bool) (x : Item) → is_some restrict ≡ true → IsNew c edit new → IsLeastFurther c edit new x → Passes (First (still_needed c restrict edit ∷ [])) → ⊥
+further_refused c edit new None x some is least passes = absurd (let odd : false ≡ true = some in cc)
+further_refused c edit new (Some by_rights) x some is least passes = passes (StillNeeded x by_rights) (something_further c edit new by_rights x x is least refl)
+
+-- what goes no further where the behaviour is RESTRICT passes
+pub none_refused : (c : List Item) (edit : Edit) (new : List Item) (restrict : Option Bool) → IsNew c edit new → (is_some restrict ≡ true → (x : Item) → IsFurther c edit new x → ⊥) → Passes (First (still_needed c restrict edit ∷ []))
+none_refused c edit new None is none = nothing_said c edit
+none_refused c edit new (Some by_rights) is none = nothing_further c edit new by_rights is (none refl)
 
 -- ---- limits
 

@@ -24,7 +24,7 @@ use catalogue_changes::{
 };
 use item_index::Steps;
 use own_places::OwnPlaces;
-use revoke_cascade::{Board, Cascade};
+use revoke_cascade::{Board, Cascade, Tried};
 use std::alloc::{AllocError, Global};
 use std::marker::Model;
 use std::sync::ledger::Ledger;
@@ -129,9 +129,15 @@ fn admit<L: Ledger>(
     ensures narrow { IfOk result (λ admitted. (new : List Item) → IsChange c.now.items new admitted.change → IsNarrow new limits.now.columns) }
     ensures few { TakesFew c.now.items edit.now steps.old steps.new }
 {
-    let cascade = Cascade::prepare(alloc, board, c, edit, steps)?;
+    let restricted = restrict.is_some();
+    let cascade = match Cascade::prepare_restricted(alloc, board, c, edit, restricted, steps)? {
+        Tried::Ready(cascade) => cascade,
+        Tried::Further(effects) => {
+            test_restrict(c, edit, &effects, restrict)?;
+            unreachable!()
+        }
+    };
     let change = change_of(alloc, c, edit, &cascade.effects)?;
-    test_restrict(c, edit, &cascade.effects, restrict)?;
     test_limits(limits, c, edit, &change)?;
     Ok(Admitted { cascade, change })
 }
