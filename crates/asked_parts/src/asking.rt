@@ -8,6 +8,7 @@ ghost use Rattle.asked_parts.specs.Parts as spec;
 
 use cat_items::{Catalogue, Item};
 use indexmap::IndexSet;
+use reached_roles::RoleGrants;
 use std::alloc::{AllocError, Global};
 use topic_keys::in_order;
 use topic_lists::put_asked;
@@ -41,10 +42,11 @@ pub(crate) fn asked_by(
 ) -> Result<Catalogue, AllocError>
     ensures { IfOk result (λ keys. (k : Item) → Contains keys.items k ↔ spec.IsAskedBy part.now.items suspects.now k) }
 {
+    let roles = RoleGrants::of(alloc, part)?;
     let mut all = Vec::new(alloc);
     let mut before = None;
     for x in suspects {
-        put_asked(alloc, part, x, before, &mut all)?;
+        put_asked(alloc, part, &roles, x, before, &mut all)?;
         before = Some(x);
     }
     ordered(alloc, all)

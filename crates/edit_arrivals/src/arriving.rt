@@ -15,6 +15,7 @@ ghost use Rattle.edit_arrivals.specs.Suspects as spec;
 use crate::keys::{Passed, added_to, next_key};
 use board_plans::Arrival;
 use cat_items::{Catalogue, Item};
+use reached_roles::RoleGrants;
 use std::alloc::{AllocError, Global};
 use system_rights::system_items;
 use topic_keys::homes;
@@ -32,11 +33,13 @@ struct Walks {
 fn arrival_of(
     alloc: Global,
     found: &Catalogue,
+    roles: &RoleGrants<'_>,
     rights: &[Item],
     passed: &mut Passed,
     x: &Item,
     key: Item,
 ) -> Result<Arrival, AllocError>
+    requires roles { roles.now ≡ found.now.items }
     requires rights { steps.AreSystemRights found.now.items rights.now }
     requires passed { steps.IsOptionBehind found.now.items rights.now passed.old x.now }
     requires key { IsKeyOf found.now.items x.now key }
@@ -45,7 +48,7 @@ fn arrival_of(
 {
     Ok(Arrival {
         key,
-        depends_on: topics(alloc, found, x)?,
+        depends_on: topics(alloc, found, roles, x)?,
         stands_under: homes(alloc, x)?,
         adds_to: added_to(alloc, found, rights, passed, x)?,
     })
@@ -55,11 +58,13 @@ fn arrival_of(
 fn put_arrival(
     alloc: Global,
     found: &Catalogue,
+    roles: &RoleGrants<'_>,
     rights: &[Item],
     walks: &mut Walks,
     x: &Item,
     arrivals: &mut Vec<Arrival>,
 ) -> Result<(), AllocError>
+    requires roles { roles.now ≡ found.now.items }
     requires rights { steps.AreSystemRights found.now.items rights.now }
     requires ahead { steps.IsAhead found.now.items rights.now walks.old x.now }
     ensures put { OnOk result (steps.IsPutBehind found.now.items x.now arrivals.old.items arrivals.new.items) }
@@ -68,7 +73,7 @@ fn put_arrival(
     match next_key(alloc, found, rights, &mut walks.keys, x)? {
         None => Ok(()),
         Some(key) => {
-            let arrival = arrival_of(alloc, found, rights, &mut walks.options, x, key)?;
+            let arrival = arrival_of(alloc, found, roles, rights, &mut walks.options, x, key)?;
             arrivals.push(arrival)?;
             Ok(())
         }
@@ -88,6 +93,7 @@ pub fn arrivals(
         → AreChosen f (λ x. suspect x ≡ true) suspects.now.items → AreArrivals standing suspect arrivals.items) }
 {
     let rights = system_items(alloc, found)?;
+    let roles = RoleGrants::of(alloc, found)?;
     let start = Passed {
         found: 0,
         rights: 0,
@@ -101,6 +107,7 @@ pub fn arrivals(
         put_arrival(
             alloc,
             found,
+            &roles,
             rights.as_slice(),
             &mut walks,
             x,

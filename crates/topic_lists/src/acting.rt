@@ -1,6 +1,6 @@
 //! For whom the needs of an item are to be met, and whom this one reaches.
 
-ghost use Rattle.std.specs.Prelude.{◌↔◌, Contains, IfOk, IsTrue, OnOk};
+ghost use Rattle.std.specs.Prelude.{◌≡◌, ◌↔◌, Contains, IfOk, IsTrue, OnOk};
 ghost use Rattle.cat_items.specs.declared.need.Auth.{Auth};
 ghost use Rattle.cat_items.specs.Reach.{Reaches};
 ghost use Rattle.cat_items.specs.Relevant.{ActsInRight, IsActor, Owns};
@@ -9,7 +9,8 @@ ghost use Rattle.topic_keys.specs.Lists.{Gets};
 ghost use Rattle.topic_lists.specs.Actors as spec;
 
 use cat_items::{Auth, Catalogue, Item, Right, owner_of};
-use role_graph::{Actor, applicable};
+use reached_roles::RoleGrants;
+use role_graph::Actor;
 use sql_tree::Name;
 use std::alloc::{AllocError, Global};
 
@@ -74,20 +75,24 @@ fn push_names(all: &mut Vec<Auth>, names: &[Name]) -> Result<(), AllocError>
 /// Puts in a user or role, and each role that it reaches.
 fn push_reached(
     alloc: Global,
-    c: &Catalogue,
+    roles: &RoleGrants<'_>,
     from: &Name,
     all: &mut Vec<Auth>,
 ) -> Result<(), AllocError>
-    ensures { OnOk result (Gets (spec.IsNamedReach c.now.items from.now) all.old.items all.new.items) }
+    ensures { OnOk result (Gets (spec.IsNamedReach roles.now from.now) all.old.items all.new.items) }
 {
-    let roles = applicable(alloc, c, from)?;
-    push_names(all, roles.as_slice())?;
+    let names = roles.reached(alloc, from)?;
+    push_names(all, names.as_slice())?;
     all.push(Auth::Named(from.copy()?))?;
     Ok(())
 }
 
-fn reached_from(alloc: Global, c: &Catalogue, actor: Actor<'_>) -> Result<Vec<Auth>, AllocError>
-    ensures { IfOk result (λ all. (g : Auth) → Contains all.items g ↔ Reaches c.now.items (auth_of actor.entry) g) }
+fn reached_from(
+    alloc: Global,
+    roles: &RoleGrants<'_>,
+    actor: Actor<'_>,
+) -> Result<Vec<Auth>, AllocError>
+    ensures { IfOk result (λ all. (g : Auth) → Contains all.items g ↔ Reaches roles.now (auth_of actor.entry) g) }
 {
     let mut all = Vec::new(alloc);
     all.push(Auth::Public)?;
@@ -98,32 +103,40 @@ fn reached_from(alloc: Global, c: &Catalogue, actor: Actor<'_>) -> Result<Vec<Au
         }
         Actor::Public => Ok(all),
         Actor::Named(name) => {
-            push_reached(alloc, c, name, &mut all)?;
+            push_reached(alloc, roles, name, &mut all)?;
             Ok(all)
         }
     }
 }
 
-fn reached(alloc: Global, c: &Catalogue, x: &Item) -> Result<Vec<Auth>, AllocError>
+fn reached(
+    alloc: Global,
+    c: &Catalogue,
+    roles: &RoleGrants<'_>,
+    x: &Item,
+) -> Result<Vec<Auth>, AllocError>
+    requires { roles.now ≡ c.now.items }
     ensures { IfOk result (λ all. (g : Auth) → Contains all.items g ↔ spec.IsReachedBy c.now.items x.now g) }
 {
     match actor_of(c, x) {
         None => Ok(Vec::new(alloc)),
-        Some(actor) => reached_from(alloc, c, actor),
+        Some(actor) => reached_from(alloc, roles, actor),
     }
 }
 
-/// Whom the actor of an item reaches, where anything is looked for. `Err` is want of memory.
+/// Whom the actor of an item reaches, where anything is looked for. The role authorizations are those of the catalogue. `Err` is want of memory.
 pub fn reached_if(
     alloc: Global,
     c: &Catalogue,
+    roles: &RoleGrants<'_>,
     x: &Item,
     looks: bool,
 ) -> Result<Vec<Auth>, AllocError>
+    requires { roles.now ≡ c.now.items }
     ensures { IfOk result (λ all. (g : Auth) → Contains all.items g ↔ (IsTrue looks × spec.IsReachedBy c.now.items x.now g)) }
 {
     if looks {
-        reached(alloc, c, x)
+        reached(alloc, c, roles, x)
     } else {
         Ok(Vec::new(alloc))
     }

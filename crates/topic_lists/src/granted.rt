@@ -11,8 +11,9 @@ ghost use Rattle.topic_lists.specs.Sought.{IsOfAny};
 
 use crate::named::put_right_names;
 use crate::rights::{is_by, is_of};
-use cat_items::{Auth, Catalogue, Item, Need, Right};
-use role_graph::{Actor, applicable};
+use cat_items::{Auth, Item, Need, Right};
+use reached_roles::RoleGrants;
+use role_graph::Actor;
 use sql_tree::Name;
 use std::alloc::{AllocError, Global};
 use topic_keys::{TopicKey, put_topic};
@@ -49,32 +50,32 @@ fn put_to_each(
 /// Puts in so for a user or role, and for each role that it reaches.
 fn put_reach(
     alloc: Global,
-    c: &Catalogue,
+    roles: &RoleGrants<'_>,
     keys: &mut Vec<Item>,
     need: &Need,
     by: &Name,
 ) -> Result<(), AllocError>
-    ensures { OnOk result (Adds (spec.IsReachTopic c.now.items need.now by.now) keys.old.items keys.new.items) }
+    ensures { OnOk result (Adds (spec.IsReachTopic roles.now need.now by.now) keys.old.items keys.new.items) }
 {
-    let roles = applicable(alloc, c, by)?;
-    put_to_each(alloc, keys, need, roles.as_slice())?;
+    let names = roles.reached(alloc, by)?;
+    put_to_each(alloc, keys, need, names.as_slice())?;
     put_to(alloc, keys, need, by)
 }
 
 fn put_reach_unless(
     alloc: Global,
-    c: &Catalogue,
+    roles: &RoleGrants<'_>,
     keys: &mut Vec<Item>,
     need: &Need,
     by: &Name,
     known: bool,
 ) -> Result<(), AllocError>
-    ensures { OnOk result (Adds (λ t. (known ≡ false) × spec.IsReachTopic c.now.items need.now by.now t) keys.old.items keys.new.items) }
+    ensures { OnOk result (Adds (λ t. (known ≡ false) × spec.IsReachTopic roles.now need.now by.now t) keys.old.items keys.new.items) }
 {
     if known {
         Ok(())
     } else {
-        put_reach(alloc, c, keys, need, by)
+        put_reach(alloc, roles, keys, need, by)
     }
 }
 
@@ -126,7 +127,7 @@ fn is_alike(right: &Right, other: Option<&Right>) -> bool
 /// that it looks for: what both ask for isn't put in again. `Err` is want of memory.
 pub fn put_granted(
     alloc: Global,
-    c: &Catalogue,
+    roles: &RoleGrants<'_>,
     keys: &mut Vec<Item>,
     right: &Right,
     by: &Name,
@@ -134,11 +135,11 @@ pub fn put_granted(
 ) -> Result<(), AllocError>
     requires by { right.now.grantor ≡ Named by.now }
     requires named { HasNamed (option_copied other) keys.old.items }
-    requires granted { spec.HasGranted c.now.items (option_copied other) keys.old.items }
-    ensures { OnOk result (Adds (spec.IsAskedOf c.now.items right.now by.now) keys.old.items keys.new.items) }
+    requires granted { spec.HasGranted roles.now (option_copied other) keys.old.items }
+    ensures { OnOk result (Adds (spec.IsAskedOf roles.now right.now by.now) keys.old.items keys.new.items) }
 {
     let need = &right.need;
     put_right_names(alloc, keys, right, other)?;
     put_public_unless(alloc, keys, need, is_granted(need, other))?;
-    put_reach_unless(alloc, c, keys, need, by, is_alike(right, other))
+    put_reach_unless(alloc, roles, keys, need, by, is_alike(right, other))
 }

@@ -20,18 +20,25 @@ use crate::own::push_own;
 use crate::rights::{right_before, right_in};
 use crate::sought::{looks, put_sought};
 use cat_items::{Auth, Catalogue, Item, Need};
+use reached_roles::RoleGrants;
 use sql_tree::Items;
 use std::alloc::{AllocError, Global};
 use topic_keys::{in_order, put_names};
 
 /// The keys of the topics that an item depends on, in any order.
-fn own_keys(alloc: Global, c: &Catalogue, x: &Item) -> Result<Vec<Item>, AllocError>
+fn own_keys(
+    alloc: Global,
+    c: &Catalogue,
+    roles: &RoleGrants<'_>,
+    x: &Item,
+) -> Result<Vec<Item>, AllocError>
+    requires { roles.now ≡ c.now.items }
     ensures { IfOk result (λ keys. (k : Item) → Contains keys.items k ↔ IsKeyWhere (IsTopicOf c.now.items x.now) k) }
 {
     let mut needs = Vec::new(alloc);
     push_own(c, x, &mut needs)?;
     let needs = needs.as_slice();
-    let all = reached_if(alloc, c, x, looks(needs, x))?;
+    let all = reached_if(alloc, c, roles, x, looks(needs, x))?;
     let mut keys = Vec::new(alloc);
     put_names(alloc, &mut keys, x)?;
     put_sought(alloc, &mut keys, x, needs, all.as_slice())?;
@@ -39,11 +46,17 @@ fn own_keys(alloc: Global, c: &Catalogue, x: &Item) -> Result<Vec<Item>, AllocEr
 }
 
 /// The keys of the topics that an item depends on, in order, where the catalogue has the schemas, views, columns and role
-/// authorizations. `Err` is want of memory.
-pub fn topics(alloc: Global, c: &Catalogue, x: &Item) -> Result<Items<Item>, AllocError>
+/// authorizations; these are given by grantee too. `Err` is want of memory.
+pub fn topics(
+    alloc: Global,
+    c: &Catalogue,
+    roles: &RoleGrants<'_>,
+    x: &Item,
+) -> Result<Items<Item>, AllocError>
+    requires { roles.now ≡ c.now.items }
     ensures { IfOk result (λ keys. AreAll (IsKeyWhere (IsTopicOf c.now.items x.now)) keys) }
 {
-    let keys = own_keys(alloc, c, x)?;
+    let keys = own_keys(alloc, c, roles, x)?;
     Ok(Items::from_vec(in_order(keys)))
 }
 
@@ -78,38 +91,42 @@ fn needs_unless(
 fn put_item(
     alloc: Global,
     c: &Catalogue,
+    roles: &RoleGrants<'_>,
     x: &Item,
     before: Option<&Item>,
     keys: &mut Vec<Item>,
 ) -> Result<(), AllocError>
-    requires { HasAskedBefore c.now.items (option_copied before) keys.old.items }
+    requires roles { roles.now ≡ c.now.items }
+    requires asked { HasAskedBefore c.now.items (option_copied before) keys.old.items }
     ensures { OnOk result (Adds (IsAskedFor c.now.items x.now) keys.old.items keys.new.items) }
 {
     let needs = needs_unless(alloc, c, x, is_beside(x, before))?;
     let needs = needs.as_slice();
-    let all = reached_if(alloc, c, x, looks(needs, x))?;
+    let all = reached_if(alloc, c, roles, x, looks(needs, x))?;
     put_named(alloc, keys, x, before)?;
     put_sought(alloc, keys, x, needs, all.as_slice())
 }
 
 /// Puts in the keys of the topics under which all stands that an item's support can depend on, where the catalogue has the
-/// schemas, views, columns and role authorizations. All that the item before asks for is there already: of rights side by side most
+/// schemas, views, columns and role authorizations; these are given by grantee too. All that the item before asks for is there already: of rights side by side most
 /// of what both ask for is not put in again. `Err` is want of memory.
 pub fn put_asked(
     alloc: Global,
     c: &Catalogue,
+    roles: &RoleGrants<'_>,
     x: &Item,
     before: Option<&Item>,
     keys: &mut Vec<Item>,
 ) -> Result<(), AllocError>
-    requires { HasAskedBefore c.now.items (option_copied before) keys.old.items }
+    requires roles { roles.now ≡ c.now.items }
+    requires asked { HasAskedBefore c.now.items (option_copied before) keys.old.items }
     ensures { OnOk result (Adds (IsAskedFor c.now.items x.now) keys.old.items keys.new.items) }
 {
     match right_in(x) {
-        None => put_item(alloc, c, x, before, keys),
+        None => put_item(alloc, c, roles, x, before, keys),
         Some(right) => match &right.grantor {
-            Auth::Named(by) => put_granted(alloc, c, keys, right, by, right_before(before)),
-            _ => put_item(alloc, c, x, before, keys),
+            Auth::Named(by) => put_granted(alloc, roles, keys, right, by, right_before(before)),
+            _ => put_item(alloc, c, roles, x, before, keys),
         },
     }
 }

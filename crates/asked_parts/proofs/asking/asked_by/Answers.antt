@@ -30,8 +30,8 @@ loop-x-preserved c = record {
   asked = λ k is. (c.in_ok-put_asked.ensures k).1 (inr is);
 }
 
-pub put_asked-requires : goal.put_asked-requires
-put_asked-requires c = c.loop-x.invariant.asked
+pub put_asked-requires-clause-asked : goal.put_asked-requires-clause-asked
+put_asked-requires-clause-asked c = c.loop-x.invariant.asked
 
 pub ordered-requires : goal.ordered-requires
 ordered-requires c =

@@ -15,4 +15,4 @@ returns-in-Some c =
     let x = c.args.x.now in
     let actor = auth_of c.in-Some.actor in
     IfOk-weaker c.reached_from.result (λ all. (g : Auth) → Contains all.items g ↔ Reaches l actor g) (λ all. (g : Auth) → Contains all.items g ↔ IsReachedBy l x g)
-    (λ all are g. join (are g) (actor_reach l x actor c.in-Some.ensures g)) c.reached_from.ensures
+    (λ all are g. join (are g) (actor_reach l x actor c.in-Some.ensures g)) (rw (← c.requires) c.reached_from.ensures)

@@ -9,7 +9,7 @@ use Rattle.topic_lists.proofs.acting.reached_from.Goals as goal
 
 pub returns-in_ok-push_reached-in-Named : goal.returns-in_ok-push_reached-in-Named
 returns-in_ok-push_reached-in-Named c =
-    let l = c.args.c.now.items in
+    let l = c.args.roles.now in
     let from = c.in-Named.name.now in
     let empty = c.new-all.result.items in
     let mid = c.push.new.self.items in

@@ -11,7 +11,7 @@ use Rattle.topic_lists.proofs.granted.put_granted.Goals as goal
 
 pub returns : goal.returns
 returns c =
-    let l = c.args.c.now.items in
+    let l = c.args.roles.now in
     let r = c.args.right.now in
     let by = c.args.by.now in
     let known = c.is_granted.result in

@@ -11,18 +11,19 @@ use Rattle.topic_lists.proofs.lists.put_asked.Goals as goal
 
 pub put_granted-requires-clause-named : goal.put_granted-requires-clause-named
 put_granted-requires-clause-named c =
-    subst (λ other. HasNamed other c.args.keys.now.items) (sym c.right_before.ensures) (has_named c.args.c.now.items c.args.keys.now.items (option_copied c.args.before) c.requires)
+    subst (λ other. HasNamed other c.args.keys.now.items) (sym c.right_before.ensures) (has_named c.args.c.now.items c.args.keys.now.items (option_copied c.args.before) c.requires.asked)
 
 pub put_granted-requires-clause-granted : goal.put_granted-requires-clause-granted
 put_granted-requires-clause-granted c =
-    subst (λ other. HasGranted c.args.c.now.items other c.args.keys.now.items) (sym c.right_before.ensures) (has_granted c.args.c.now.items c.args.keys.now.items (option_copied c.args.before) c.requires)
+    rw c.requires.roles (subst (λ other. HasGranted c.args.c.now.items other c.args.keys.now.items) (sym c.right_before.ensures) (has_granted c.args.c.now.items c.args.keys.now.items (option_copied c.args.before) c.requires.asked))
 
 pub returns-in-Named : goal.returns-in-Named
 returns-in-Named c =
-    let l = c.args.c.now.items in
+    let l = c.args.roles.now in
     let x = c.args.x.now in
     let r = c.in-Some.right.now in
     let by = c.in-Named.by in
-    on_ok_weaker c.put_granted.result
+    rw (← c.requires.roles)
+    (on_ok_weaker c.put_granted.result
     (adds_alike (IsAskedOf l r by) (IsAskedFor l x) c.args.keys.now.items c.put_granted.new.keys.items (asked_of l r by c.in-Named.is x (sym c.in-Some.ensures)))
-    c.put_granted.ensures
+    c.put_granted.ensures)

@@ -14,7 +14,7 @@ use Rattle.topic_lists.proofs.NameLaws.{has_named}
 use Rattle.topic_lists.proofs.lists.put_item.Goals as goal
 
 pub put_named-requires : goal.put_named-requires
-put_named-requires c = has_named c.args.c.now.items c.args.keys.now.items (option_copied c.args.before) c.requires
+put_named-requires c = has_named c.args.c.now.items c.args.keys.now.items (option_copied c.args.before) c.requires.asked
 
 pub returns : goal.returns
 returns c =
@@ -30,6 +30,6 @@ returns c =
     subst (λ (list : List Need). (need : Need) → Contains list need ↔ (IsOwnNeed l x need ⊎ ((known ≡ false) × IsFarNeed l x need))) (sym c.as_slice-needs.ensures.value) c.in_ok-needs.ensures in
     let reach = reached_where l x needs c.in_ok-all.all.items all c.looks.result c.looks.ensures c.as_slice.ensures.value c.in_ok-all.ensures in
     on_ok_weaker c.put_sought.result
-    (λ end. adds_asked l x (option_copied c.args.before) known needs all old new c.is_beside.ensures c.requires are reach
+    (λ end. adds_asked l x (option_copied c.args.before) known needs all old new c.is_beside.ensures c.requires.asked are reach
     (adds_both (λ t. IsNameTopic x t ⊎ IsFarTopic x t) (IsSoughtTopic needs all x) old named new c.in_ok-put_named.ensures end))
     c.put_sought.ensures
