@@ -3,3 +3,4 @@ pub mod Lying
 pub mod Passing
 pub mod Skipping
 pub mod Steps
+pub mod TableLemmas

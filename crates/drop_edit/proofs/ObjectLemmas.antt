@@ -36,7 +36,8 @@ use Rattle.edit_rules.specs.First.{First, IsTested, Passes}
 use Rattle.edit_rules.specs.Names.{object_in}
 use Rattle.edit_rules.specs.Owners.{not_owner}
 use Rattle.edit_rules.proofs.FirstLaws.{exit_of_others, passes_more, passes_that}
-use Rattle.drop_edit.specs.DroppedObjects.{GoesWith, IsActionOn, IsAssertion, IsBeside, IsNamedBy, IsObjectDrop, IsPartOf, IsPartOfDomain, IsPartOfTable, IsTableAction, drop_object_refusals, refusals_by_object, unknown_object}
+use Rattle.chosen_parts.specs.Tables.{IsTableAction}
+use Rattle.drop_edit.specs.DroppedObjects.{GoesWith, IsActionOn, IsAssertion, IsBeside, IsNamedBy, IsObjectDrop, IsPartOf, IsPartOfDomain, IsPartOfTable, drop_object_refusals, refusals_by_object, unknown_object}
 
 -- ---- edits that only take
 

@@ -4,7 +4,7 @@ use Rattle.sql_names.specs.NameBytes.{PathNames}
 use Rattle.sql_names.specs.declared.column.ObjectName.{ObjectName}
 use Rattle.sql_names.specs.declared.object.Object.{Object}
 use Rattle.sql_tree.specs.declared.rights.Action.{Action}
-use Rattle.sql_tree.specs.declared.rights.Action.TheVariants.{Select, Insert, Update, Delete, References, Usage, Execute}
+use Rattle.sql_tree.specs.declared.rights.Action.TheVariants.{Usage, Execute}
 use Rattle.sql_tree.specs.declared.statement.DropKind.{DropKind}
 use Rattle.sql_tree.specs.declared.statement.DropKind.TheVariants as kind
 use Rattle.cat_items.specs.declared.edit.Edit.{Edit}
@@ -20,6 +20,7 @@ use Rattle.cat_items.specs.Rights.{path_of, IsBaseTable}
 use Rattle.edit_rules.specs.Chosen.{IsTaking}
 use Rattle.edit_rules.specs.Names.{object_in}
 use Rattle.edit_rules.specs.Owners.{not_owner}
+use Rattle.chosen_parts.specs.Tables.{IsTableAction}
 
 -- ---- what is named
 
@@ -95,15 +96,6 @@ IsPartOf kind.Assertion o x = IsAssertion o x
 IsPartOf kind.Function o x = IsRoutineOf o x
 IsPartOf kind.Procedure o x = IsRoutineOf o x
 IsPartOf kind.Routine o x = IsRoutineOf o x
-
--- the actions on tables and views
-abbrev pub IsTableAction : Action → Type 0
-IsTableAction Select = Unit {0}
-IsTableAction Insert = Unit {0}
-IsTableAction Update = Unit {0}
-IsTableAction Delete = Unit {0}
-IsTableAction References = Unit {0}
-IsTableAction action = ⊥
 
 -- the actions on objects of a kind
 abbrev pub IsActionOn : DropKind → Action → Type 0

@@ -11,11 +11,11 @@ ghost use Rattle.edit_rules.specs.Names as names;
 ghost use Rattle.edit_laws.specs.Sound.{IsSound};
 ghost use Rattle.drop_edit.specs.DroppedObjects as spec;
 
-use crate::parts::{assertion_parts, routine_parts, table_parts};
+use crate::parts::{assertion_parts, routine_parts};
 use cat_items::{
     Catalogue, Edit, EditError, Item, ObjectKind, Part, Refusal, Who, objects_of, places,
 };
-use chosen_parts::chosen_in;
+use chosen_parts::{chosen_in, parts_of_table};
 use edit_rules::{Chooses, chosen, object_in, path_of, test_owner};
 use sql_tree::{Action, DropKind, Items, Object, ObjectName, Path};
 use std::alloc::{AllocError, Global};
@@ -181,7 +181,7 @@ pub fn belongings(
         path: &path,
     };
     match kind {
-        DropKind::Table | DropKind::View => chosen_in(alloc, c, &table_parts(object), &dropped),
+        DropKind::Table | DropKind::View => chosen_in(alloc, c, &parts_of_table(object), &dropped),
         DropKind::Domain => chosen(alloc, c, &dropped),
         DropKind::Assertion => chosen_in(alloc, c, &assertion_parts(object), &dropped),
         DropKind::Function | DropKind::Procedure | DropKind::Routine => {

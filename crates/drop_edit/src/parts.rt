@@ -6,33 +6,6 @@ ghost use Rattle.drop_edit.specs.Parts.{HoldAllOf};
 use cat_items::{ObjectKey, ObjectKind, Part, PathKey};
 use sql_tree::{Action, Object};
 
-/// The parts of a base table or a view.
-pub(crate) fn table_parts(object: &Object) -> [Part<'_>; 16]
-    ensures table { HoldAllOf kind.Table object.now result }
-    ensures view { HoldAllOf kind.View object.now result }
-{
-    let key: ObjectKey<'_> = object.into();
-    let on = PathKey::Object(key);
-    [
-        Part::Table(key),
-        Part::View(key),
-        Part::Columns(key),
-        Part::Objects(ObjectKind::Key, &object.schema),
-        Part::Objects(ObjectKind::Foreign, &object.schema),
-        Part::Objects(ObjectKind::Check, &object.schema),
-        Part::HeldOn(Action::Select, on),
-        Part::HeldOn(Action::Insert, on),
-        Part::HeldOn(Action::Update, on),
-        Part::HeldOn(Action::Delete, on),
-        Part::HeldOn(Action::References, on),
-        Part::GrantableOn(Action::Select, on),
-        Part::GrantableOn(Action::Insert, on),
-        Part::GrantableOn(Action::Update, on),
-        Part::GrantableOn(Action::Delete, on),
-        Part::GrantableOn(Action::References, on),
-    ]
-}
-
 /// The part of an assertion.
 pub(crate) fn assertion_parts(object: &Object) -> [Part<'_>; 1]
     ensures { HoldAllOf kind.Assertion object.now result }
