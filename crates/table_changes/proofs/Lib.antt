@@ -1,3 +1,4 @@
+pub mod PartLemmas
 pub mod Settled
 pub mod SoundDefaults
 pub mod SoundDrops

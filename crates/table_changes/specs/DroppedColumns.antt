@@ -3,8 +3,6 @@ use Rattle.std.specs.Prelude.{◌≡◌, ◌≢◌, ◌⊎◌, List, [], ◌∷�
 use Rattle.std.specs.List.{Contains}
 use Rattle.sql_names.specs.NameBytes.{NameBytes}
 use Rattle.sql_names.specs.declared.object.Object.{Object}
-use Rattle.sql_tree.specs.declared.rights.Action.{Action}
-use Rattle.sql_tree.specs.declared.rights.Action.TheVariants.{Select, Insert, Update, Delete, References}
 use Rattle.cat_items.specs.declared.edit.Edit.{Edit}
 use Rattle.cat_items.specs.declared.edit.Refusal.TheVariants.{OnlyColumn}
 use Rattle.cat_items.specs.declared.item.Item.{Item}
@@ -14,16 +12,8 @@ use Rattle.cat_items.specs.declared.need.Need.{Need}
 use Rattle.cat_items.specs.Reach.{Has}
 use Rattle.cat_items.specs.Rights.{path_of, reference}
 use Rattle.edit_rules.specs.Names.{unknown_base_table, unknown_column}
+use Rattle.chosen_parts.specs.Tables.{IsTableAction}
 use Rattle.statement_steps.specs.Steps.{MakesEdit, Nothing, Steps, where_it_is}
-
--- the actions on tables and views
-abbrev pub IsTableAction : Action → Type 0
-IsTableAction Select = Unit {0}
-IsTableAction Insert = Unit {0}
-IsTableAction Update = Unit {0}
-IsTableAction Delete = Unit {0}
-IsTableAction References = Unit {0}
-IsTableAction action = ⊥
 
 -- a need on a table or view is one on this table as a whole or on this column of it
 abbrev pub IsOfColumn : Object → NameBytes → Need → Type 0

@@ -7,9 +7,11 @@ use Rattle.cat_items.specs.declared.edit.Refusal.{Refusal}
 use Rattle.cat_items.specs.declared.edit.Refusal.TheVariants.{UnknownName}
 use Rattle.cat_items.specs.declared.item.Item.{Item}
 use Rattle.cat_items.specs.declared.item.Item.TheVariants as item
+use Rattle.cat_items.specs.declared.ranges.Part.{Part}
 use Rattle.cat_items.specs.Reach.{Has}
 use Rattle.cat_items.specs.Rights.{path_of}
 use Rattle.edit_rules.specs.Names.{unknown_base_table}
+use Rattle.chosen_parts.specs.Parts.{LiesIn}
 use Rattle.statement_steps.specs.Steps.{MakesEdit, Nothing, Steps, where_it_is}
 
 -- a constraint is in the schema of its table
@@ -22,6 +24,10 @@ IsConstraintOf table name (item.Key k) = (k.table ≡ table) × (k.name ≡ in_s
 IsConstraintOf table name (item.Foreign f) = (f.table ≡ table) × (f.name ≡ in_schema_of table name)
 IsConstraintOf table name (item.Check x) = (x.table ≡ table) × (x.name ≡ in_schema_of table name)
 IsConstraintOf table name x = ⊥
+
+-- the constraint of this table and name is in one of these parts
+abbrev pub HoldConstraint : Object → NameBytes → List Part → Type 0
+HoldConstraint table name parts = (x : Item) → IsConstraintOf table name x → LiesIn parts x
 
 -- the table has no constraint of this name
 abbrev pub unknown_constraint : List Item → Object → NameBytes → Refusal → Type 0

@@ -7,13 +7,16 @@ ghost use Rattle.cat_items.specs.Good.{IsGood};
 ghost use Rattle.cat_items.specs.Rights as rights;
 ghost use Rattle.edit_rules.specs.First.{IsTested};
 ghost use Rattle.edit_rules.specs.Names as names;
+ghost use Rattle.chosen_parts.specs.Tables.{IsTableAction};
 ghost use Rattle.edit_laws.specs.Sound.{IsSound};
 ghost use Rattle.statement_steps.specs.Steps.{refusals_of};
 ghost use Rattle.table_changes.specs.DroppedColumns as spec;
 
-use crate::searches::has_chosen;
-use cat_items::{Catalogue, Check, Edit, EditError, Foreign, Item, Need, Refusal, Right, Who};
-use edit_rules::{Chooses, chosen, object_in, path_of, test_base_table, test_column};
+use cat_items::{
+    Catalogue, Check, Edit, EditError, Foreign, Item, Need, Part, Refusal, Right, Who,
+};
+use chosen_parts::{chosen_in, has_in, parts_of_table};
+use edit_rules::{Chooses, object_in, path_of, test_base_table, test_column};
 use sql_tree::{Action, Items, Name, Object, ObjectName, Path};
 use statement_steps::{Making, edit_of};
 use std::alloc::{AllocError, Global};
@@ -38,7 +41,7 @@ fn is_named(column: &Option<Name>, name: &Name) -> bool
 
 /// Whether an action is one on tables and views.
 fn is_table_action(action: Action) -> bool
-    ensures { IsTrue result ↔ spec.IsTableAction action }
+    ensures { IsTrue result ↔ IsTableAction action }
 {
     !matches!(action, Action::Usage | Action::Execute | Action::Admin)
 }
@@ -222,7 +225,7 @@ impl<'a> Making for OldColumn<'a> {
             table: &self.table,
             name: self.column,
         };
-        if has_chosen(c, &others) {
+        if has_in(c, &[Part::Columns((&self.table).into())], &others) {
             return Ok(named);
         }
         Err(EditError::Refused(Refusal::OnlyColumn))
@@ -246,7 +249,7 @@ impl<'a> Making for OldColumn<'a> {
             name: self.column,
         };
         Ok(Edit {
-            target: chosen(alloc, c, &column)?,
+            target: chosen_in(alloc, c, &parts_of_table(&self.table), &column)?,
             changed: Items::new(alloc),
             added: Items::new(alloc),
         })
@@ -256,7 +259,8 @@ impl<'a> Making for OldColumn<'a> {
 /// What DROP COLUMN takes out of a catalogue by itself (SQL:2003 part 2, 11.18), or why it is refused: `UnknownName` of the base table, then
 /// of the column, as schema, table and column; `NotOwner` of the table's schema; `OnlyColumn`. `Memory` is want of memory. The places of the
 /// other columns stay, with a gap. Other constraints, views and routines that use the column aren't taken here, and whether the behaviour
-/// RESTRICT refuses is not decided here. It looks at each item of the catalogue.
+/// RESTRICT refuses is not decided here. What goes is looked for among the columns of the table, the constraints of its schema, and the
+/// privileges on the table and on its columns alone.
 pub fn drop_column(
     alloc: Global,
     c: &Catalogue,

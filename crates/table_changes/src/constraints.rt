@@ -8,9 +8,9 @@ ghost use Rattle.edit_laws.specs.Sound.{IsSound};
 ghost use Rattle.statement_steps.specs.Steps.{refusals_of};
 ghost use Rattle.table_changes.specs.DroppedConstraints as spec;
 
-use crate::searches::has_chosen;
-use cat_items::{Catalogue, Edit, EditError, Item, Need, Refusal, Who};
-use edit_rules::{Chooses, chosen, object_in, test_base_table};
+use cat_items::{Catalogue, Edit, EditError, Item, Need, ObjectKind, Part, Refusal, Who};
+use chosen_parts::{chosen_in, has_in};
+use edit_rules::{Chooses, object_in, test_base_table};
 use sql_tree::{Items, Name, Object, ObjectName, Path};
 use statement_steps::{Making, edit_of};
 use std::alloc::{AllocError, Global};
@@ -30,6 +30,18 @@ impl<'a> OldConstraint<'a> {
         table.same(&self.table)
             && name.schema.same(&self.table.schema)
             && name.name.same(self.constraint)
+    }
+
+    /// The parts of a catalogue among which it stands: the constraints of its table's schema.
+    fn parts(&self) -> [Part<'_>; 3]
+        ensures { spec.HoldConstraint self.now.table self.now.constraint.now result }
+    {
+        let schema = &self.table.schema;
+        [
+            Part::Objects(ObjectKind::Key, schema),
+            Part::Objects(ObjectKind::Foreign, schema),
+            Part::Objects(ObjectKind::Check, schema),
+        ]
     }
 }
 
@@ -52,7 +64,7 @@ impl<'a> Chooses for OldConstraint<'a> {
 fn test_constraint(c: &Catalogue, old: &OldConstraint<'_>) -> Result<(), EditError>
     ensures { HasPassed (spec.unknown_constraint c.now.items old.now.table old.now.constraint.now ∷ []) result }
 {
-    if has_chosen(c, old) {
+    if has_in(c, &old.parts(), old) {
         return Ok(());
     }
     let path = Path::two(old.table.schema.copy()?, old.constraint.copy()?);
@@ -110,7 +122,7 @@ impl<'a> Making for OldConstraint<'a> {
         _made: Items<Need>,
     ) -> Result<Edit, AllocError> {
         Ok(Edit {
-            target: chosen(alloc, c, self)?,
+            target: chosen_in(alloc, c, &self.parts(), self)?,
             changed: Items::new(alloc),
             added: Items::new(alloc),
         })
@@ -120,7 +132,7 @@ impl<'a> Making for OldConstraint<'a> {
 /// What DROP CONSTRAINT of a table takes out of a catalogue by itself (SQL:2003 part 2, 11.20), or why it is refused: `UnknownName` of the
 /// base table, then of the constraint, as the table's schema and the name, also where it is one of another table; `NotOwner` of the table's
 /// schema. `Memory` is want of memory. A foreign key that is bound to a dropped key isn't taken here, and whether the behaviour RESTRICT
-/// refuses is not decided here. It looks at each item of the catalogue.
+/// refuses is not decided here. The constraint is looked for among those of the table's schema alone.
 pub fn drop_constraint(
     alloc: Global,
     c: &Catalogue,

@@ -12,8 +12,8 @@ ghost use Rattle.edit_laws.specs.Sound.{IsSound};
 ghost use Rattle.statement_steps.specs.Steps.{refusals_of};
 ghost use Rattle.table_changes.specs.Defaults as spec;
 
-use crate::searches::only;
-use cat_items::{Catalogue, Column, Edit, EditError, Item, Need, Refusal, Shared, Who};
+use crate::lists::only;
+use cat_items::{Catalogue, Column, Edit, EditError, Item, Need, Refusal, Shared, Who, columns_of};
 use edit_rules::{object_in, test_base_table};
 use sql_tree::{Default, Items, Name, Object, ObjectName, Path};
 use statement_steps::{Making, edit_of};
@@ -37,13 +37,15 @@ fn as_column<'a>(x: &'a Item, table: &Object, name: &Name) -> Option<&'a Column>
     }
 }
 
-/// The column of this name.
+/// The column of this name, looked for among the columns of its table alone.
 fn find_column<'a>(c: &'a Catalogue, table: &Object, name: &Name) -> Option<&'a Column>
     ensures found { IfSome result (λ column. spec.IsStanding c.now.items table.now name.now column.now) }
     ensures none { IfNone result (¬ (Has c.now.items (IsColumn (path_of table.now) name.now))) }
 {
-    for x in c.items() {
-        if let Some(column) = as_column(x, table, name) {
+    let items = c.items();
+    let all = columns_of(c, table);
+    for at in all.start..all.end {
+        if let Some(column) = as_column(&items[at], table, name) {
             return Some(column);
         }
     }

@@ -5,7 +5,7 @@ mod changes;
 mod columns;
 mod constraints;
 mod defaults;
-mod searches;
+mod lists;
 
 pub use changes::alter_standing;
 pub use columns::drop_column;

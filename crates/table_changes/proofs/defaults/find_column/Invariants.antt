@@ -1,6 +1,7 @@
+use Rattle.std.proofs.Common.{None}
 use Rattle.cat_items.specs.Rights.{path_of, IsColumn}
-use Rattle.table_parts.proofs.Searches.{NoneBelow}
+use Rattle.role_graph.proofs.LoopLemmas.{NoneFrom}
 use Rattle.table_changes.proofs.defaults.find_column.Given as goal
 
-abbrev pub invariant-loop-x : goal.invariant-loop-x
-invariant-loop-x l = record { none : NoneBelow (IsColumn (path_of l.table) l.name) l.c.items l.x-index }
+abbrev pub invariant-loop-at : goal.invariant-loop-at
+invariant-loop-at l = record { none : NoneFrom l.c.items None (IsColumn (path_of l.table) l.name) l.initial.at l.at }

@@ -5,12 +5,16 @@ use Rattle.cat_items.specs.Reach.{Has}
 use Rattle.cat_items.specs.declared.edit.Refusal.TheVariants.{OnlyColumn}
 use Rattle.statement_steps.specs.Steps.{where_it_is}
 use Rattle.table_changes.specs.DroppedColumns.{IsOtherColumn}
+use Rattle.table_changes.proofs.PartLemmas.{others_lie}
 use Rattle.table_changes.proofs.columns.OldColumnMaking.rules.Goals as goal
 
-pub returns-then-has_chosen : goal.returns-then-has_chosen
-returns-then-has_chosen c =
+pub has_in-requires : goal.has_in-requires
+has_in-requires c = let d = c.args.self.now in others_lie c.args.c.now.items d.table d.column.now c.into.result c.into.ensures
+
+pub returns-then-has_in : goal.returns-then-has_in
+returns-then-has_in c =
     let d = c.args.self.now in
-    (passes_one (where_it_is (¬ (Has c.args.c.now.items (IsOtherColumn d.table d.column.now))) OnlyColumn) (λ refusal r. r.0 (c.has_chosen.ensures.0 c.if-has_chosen.true)), c.requires.named)
+    (passes_one (where_it_is (¬ (Has c.args.c.now.items (IsOtherColumn d.table d.column.now))) OnlyColumn) (λ refusal r. r.0 (c.has_in.ensures.0 c.if-has_in.true)), c.requires.named)
 
 pub returns : goal.returns
-returns c = (inl ((λ has. both_ways _ c.if-has_chosen.false (c.has_chosen.ensures.1 has)), refl), tt)
+returns c = (inl ((λ has. both_ways _ c.if-has_in.false (c.has_in.ensures.1 has)), refl), tt)
