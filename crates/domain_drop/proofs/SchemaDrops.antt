@@ -1,5 +1,5 @@
 -- DROP SCHEMA has one refusal at most and one edit, which is sound and leaves the users.
-use Rattle.std.proofs.Common.{◌≡◌, ◌≢◌, List, [], ◌∷◌, Option, Some, None, Err, sym, subst, ◌∙◌}
+use Rattle.std.proofs.Common.{◌≡◌, ◌≢◌, List, [], ◌∷◌, Option, Some, None, Err, Bor, refl, sym, subst, ◌∙◌, lit<}
 use Rattle.std.specs.Result.{IsErrAnd}
 use Rattle.std.specs.declared.result.Result.{Result}
 use Rattle.sql_names.specs.NameBytes.{NameBytes}
@@ -10,9 +10,11 @@ use Rattle.cat_items.specs.declared.edit.Who.{Who}
 use Rattle.cat_items.specs.declared.item.Column.{Column}
 use Rattle.cat_items.specs.declared.item.Item.{Item}
 use Rattle.cat_items.specs.declared.item.Item.TheVariants as item
+use Rattle.cat_items.specs.declared.ranges.Part.TheVariants as part
 use Rattle.cat_items.specs.Fit.{LacksPart}
 use Rattle.cat_items.specs.Good.{IsGood}
 use Rattle.cat_items.specs.Rights.{IsSchema}
+use Rattle.chosen_parts.specs.Parts.{LieIn}
 use Rattle.edit_rules.specs.Chosen.{AreChosen}
 use Rattle.edit_rules.specs.First.{First, IsTested, Passes}
 use Rattle.edit_rules.specs.Names.{unknown_schema}
@@ -25,6 +27,11 @@ use Rattle.domain_drop.specs.Drops.{IsFreeing, IsSchemaDrop, drop_schema_refusal
 use Rattle.domain_drop.specs.FreedColumns.{FreedBySchema, IsOfSchema}
 use Rattle.domain_drop.proofs.CopiesSettled.{freeing_settled}
 use Rattle.domain_drop.proofs.SoundFreeing.{freeing_leaves_users, sound_freeing}
+
+-- ---- where it stands
+
+pub schema_lies : (c : List Item) (schema : Bor NameBytes) → LieIn c (part.Schema schema ∷ []) (IsSchema schema.now)
+schema_lies c schema x there is = (part.Schema schema, (0, lit< tt, refl), is)
 
 -- ---- soundness
 

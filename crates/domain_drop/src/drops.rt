@@ -8,9 +8,10 @@ ghost use Rattle.domain_drop.specs.Drops as spec;
 
 use crate::freeing::free_columns;
 use crate::gone::Gone;
-use cat_items::{Catalogue, Edit, EditError, Item, Who};
+use cat_items::{Catalogue, Edit, EditError, Item, Part, Who};
+use chosen_parts::chosen_in;
 use drop_edit::{belongings, test_dropped};
-use edit_rules::{Chooses, chosen, object_in, test_owner, test_schema};
+use edit_rules::{Chooses, object_in, test_owner, test_schema};
 use sql_tree::{DropKind, Name, ObjectName};
 use std::alloc::Global;
 
@@ -70,6 +71,11 @@ pub fn drop_schema(
 {
     test_schema(c, schema)?;
     test_owner(alloc, c, who, schema)?;
-    let target = chosen(alloc, c, &TheSchema { name: schema })?;
+    let target = chosen_in(
+        alloc,
+        c,
+        &[Part::Schema(schema)],
+        &TheSchema { name: schema },
+    )?;
     Ok(free_columns(alloc, c, Gone::Schema(schema), target)?)
 }

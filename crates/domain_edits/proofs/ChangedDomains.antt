@@ -1,5 +1,5 @@
 -- What ALTER DOMAIN makes, action by action: its tests and its edit.
-use Rattle.std.proofs.Common.{◌≡◌, ◌⊎◌, ◌↔◌, List, [], ◌∷◌, length, Option, Some, Ok, Err, sym, subst, refl, inl, inr, arith}
+use Rattle.std.proofs.Common.{◌≡◌, ◌⊎◌, ◌↔◌, ℕ, List, [], ◌∷◌, length, Option, Some, Ok, Err, Bor, ap, sym, subst, refl, ◌∙◌, inl, inr, lit<, arith}
 use Rattle.std.specs.List.{Any, Contains}
 use Rattle.std.specs.Prelude.{IfOk}
 use Rattle.std.specs.declared.alloc.AllocError.{AllocError}
@@ -17,10 +17,13 @@ use Rattle.cat_items.specs.declared.item.Domain.{Domain}
 use Rattle.cat_items.specs.declared.item.Item.{Item}
 use Rattle.cat_items.specs.declared.item.Item.TheVariants as item
 use Rattle.cat_items.specs.declared.need.Need.{Need}
+use Rattle.cat_items.specs.declared.ranges.ObjectKind.TheVariants as object
+use Rattle.cat_items.specs.declared.ranges.Part.TheVariants as part
 use Rattle.cat_items.specs.Catalogues.{IsInOrder}
 use Rattle.cat_items.specs.Rights.{path_of}
 use Rattle.view_deps.specs.declared.resolve.ResolvedExpr.{ResolvedExpr}
 use Rattle.role_graph.proofs.LoopLemmas.{join}
+use Rattle.chosen_parts.specs.Parts.{LieIn}
 use Rattle.edit_rules.specs.Chosen.{AreAll, AreChosen}
 use Rattle.edit_rules.specs.First.{First, IsTested, Passes}
 use Rattle.edit_rules.proofs.FirstLaws.{passes_one, tested_by_others}
@@ -173,6 +176,11 @@ module _ (c : List Item) (who : Who) (o : Object) (checks : List WrittenCheck) w
 
 none_all : AreAll Nothing []
 none_all = record { order = λ i j d below within. absurd (omega (arith, within)); members = λ x. (λ h. Contains-nil x h, λ h. absurd h) }
+
+-- the check is among those of its schema
+pub check_lies : (c : List Item) (o name : Object) (schema : Bor (List ℕ)) → schema.now ≡ name.schema → LieIn c (part.Objects object.DomainCheck schema ∷ []) (IsCheckNamed o name)
+check_lies c o name schema same (item.DomainCheck x) there is = (part.Objects object.DomainCheck schema, (0, lit< tt, refl), (refl, ap Some (ap (λ (n : Object). n.schema) is.1 ∙ sym same)))
+check_lies c o name schema same x there is = absurd is
 
 module _ (c : List Item) (o name : Object) where
   pub unknown_told : (items : List Item) → AreChosen c (IsCheckNamed o name) items → items ≡ [] → First (unknown_check c o name ∷ []) (UnknownName (path_of name))

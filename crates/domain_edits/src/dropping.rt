@@ -5,8 +5,9 @@ ghost use Rattle.edit_rules.specs.Chosen.{AreChosen};
 ghost use Rattle.edit_rules.specs.First.{IsTested};
 ghost use Rattle.domain_edits.specs.AlteredDomains as spec;
 
-use cat_items::{Catalogue, Edit, EditError, Item, Need, Refusal, Who};
-use edit_rules::{Chooses, chosen, path_of};
+use cat_items::{Catalogue, Edit, EditError, Item, Need, ObjectKind, Part, Refusal, Who};
+use chosen_parts::chosen_in;
+use edit_rules::{Chooses, path_of};
 use sql_tree::{Items, Name, Object};
 use statement_steps::Making;
 use std::alloc::{AllocError, Global};
@@ -42,11 +43,12 @@ impl Chooses for DroppedCheck {
     }
 }
 
-/// The check of this name. Refuses a name that no check of the domain has.
+/// The check of this name, looked for among the checks of domains in the name's schema alone. Refuses a name that no check of the domain has.
 fn check_of(alloc: Global, c: &Catalogue, dropped: &DroppedCheck) -> Result<Items<Item>, EditError>
     ensures { IsTested (spec.unknown_check c.now.items dropped.now.domain dropped.now.name ∷ []) (AreChosen c.now.items (spec.IsCheckNamed dropped.now.domain dropped.now.name)) result }
 {
-    let checks = chosen(alloc, c, dropped)?;
+    let parts = [Part::Objects(ObjectKind::DomainCheck, &dropped.name.schema)];
+    let checks = chosen_in(alloc, c, &parts, dropped)?;
     if checks.is_empty() {
         let path = path_of(&dropped.name)?;
         return Err(EditError::Refused(Refusal::UnknownName { path }));

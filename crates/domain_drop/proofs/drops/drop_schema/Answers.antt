@@ -1,10 +1,13 @@
-use Rattle.domain_drop.proofs.SchemaDrops.{both_pass, refused_by_owner, schema_goes, sound_schema_drop}
+use Rattle.domain_drop.proofs.SchemaDrops.{both_pass, refused_by_owner, schema_goes, schema_lies, sound_schema_drop}
 use Rattle.domain_drop.proofs.drops.drop_schema.Goals as goal
 
 pub returns-in_err-test_owner-clause-tested : goal.returns-in_err-test_owner-clause-tested
 returns-in_err-test_owner-clause-tested c =
     refused_by_owner c.args.c.now.items c.args.who.now c.args.schema.now c.in_err-test_owner.field-0.0 c.from_residual-in_err-test_owner.result c.from_residual-in_err-test_owner.ensures.1
     c.in_ok-test_schema.ensures.0 c.in_err-test_owner.ensures
+
+pub chosen_in-requires : goal.chosen_in-requires
+chosen_in-requires c = schema_lies c.args.c.now.items c.args.schema
 
 pub returns-clause-tested : goal.returns-clause-tested
 returns-clause-tested c = (

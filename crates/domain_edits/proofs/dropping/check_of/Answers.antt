@@ -1,6 +1,10 @@
+use Rattle.std.proofs.Common.{refl}
 use Rattle.std.proofs.lemmas.Bool.{both_ways}
-use Rattle.domain_edits.proofs.ChangedDomains.{stands}
+use Rattle.domain_edits.proofs.ChangedDomains.{check_lies, stands}
 use Rattle.domain_edits.proofs.dropping.check_of.Goals as goal
+
+pub chosen_in-requires : goal.chosen_in-requires
+chosen_in-requires c = check_lies c.args.c.now.items c.args.dropped.now.domain c.args.dropped.now.name _ refl
 
 pub returns : goal.returns
 returns c = (
