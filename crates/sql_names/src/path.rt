@@ -7,8 +7,9 @@ ghost use Rattle.std.specs.Cmp.Lexicographic.{slice_cmp};
 ghost use Rattle.std.specs.Cmp.{partial_order_from_own_ties};
 ghost use Rattle.std.specs.Cmp.Rules.{comparing};
 ghost use Rattle.std.proofs.Common.{rules};
-ghost use Rattle.std.specs.Hash as hashes;
 ghost use Rattle.std.specs.Hash.{same_Alike};
+ghost use Rattle.std.specs.List.{flat_map};
+ghost use Rattle.sql_names.specs.Fronts.{name_writes};
 ghost use Rattle.sql_names.specs.Names.{path_eq-Decides};
 
 use crate::name::Name;
@@ -177,12 +178,11 @@ impl Ord for Path {
 }
 
 impl Hash for Path {
-    ghost hash_input = { hashes.slice hashes.str };
+    ghost hash_input = { flat_map name_writes };
 
-    ghost respects_eq = { (same_Alike (hashes.slice hashes.str) path_eq-Decides).fed };
+    ghost respects_eq = { (same_Alike (flat_map name_writes) path_eq-Decides).fed };
 
     fn hash<H: Hasher>(&self, state: &mut H) {
-        self.len().hash(state);
         match &self.names {
             Names::One(a) => a.hash(state),
             Names::Two(a, b) => {

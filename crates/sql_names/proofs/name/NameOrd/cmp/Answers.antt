@@ -1,0 +1,10 @@
+use Rattle.std.proofs.Common.{rules, arith, ℕ, ◌≡◌, sym, ap, subst, refl, ◌∙◌}
+use Rattle.sql_names.specs.Fronts.{front_number, most}
+use Rattle.sql_names.proofs.FrontLemmas.{same, apart, level}
+use Rattle.sql_names.proofs.name.NameOrd.cmp.Goals as goal
+
+pub returns-then-one-two : goal.returns-then-one-two
+returns-then-one-two c = search (rules, apart)
+
+pub returns-then-len-lt-FRONT : goal.returns-then-len-lt-FRONT
+returns-then-len-lt-FRONT c = search (rules, same, level)
