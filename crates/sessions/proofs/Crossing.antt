@@ -1,7 +1,9 @@
--- A book may go to other threads. Its parts come first, each by itself, since one search for all of them gives up.
+-- A book may go to other threads. Its parts come first, each by itself, and names and paths as their own crate tells it, since one search for all of them gives up.
 use denote.Param.Send.{IsSend, sendable}
 use Rattle.std.proofs.Crossing.{crosses, frees}
 use Rattle.std.proofs.MapsCrossing as maps
+use Rattle.sql_names.proofs.name.Name.TheSendSync as name
+use Rattle.sql_names.proofs.path.Path.TheSendSync as path
 use Rattle.item_index.specs.contracts.lists.Lists as Lists
 use Rattle.cat_items.proofs.Sends.{item_send}
 use Rattle.cat_items.specs.contracts.catalogue.Catalogue as Catalogue
@@ -24,13 +26,13 @@ board_send : IsSend Board.the_row
 board_send = search (item_send, lists_send, crosses, frees, sendable) depth 30 fits 100000
 
 known_send : IsSend KnownPlaces.the_row
-known_send = search (maps.crosses, crosses, frees, sendable) depth 30 fits 100000
+known_send = search (name.the_send, path.the_send, maps.crosses, crosses, frees, sendable) depth 30 fits 100000
 
 store_send : IsSend Store.the_row
 store_send = search (catalogue_send, board_send, known_send, sendable) depth 30 fits 100000
 
 session_send : IsSend Session.the_row
-session_send = search (crosses, frees, sendable) depth 30 fits 100000
+session_send = search (name.the_send, crosses, frees, sendable) depth 30 fits 100000
 
 sessions_send : IsSend Sessions.the_row
 sessions_send = search (session_send, maps.crosses, crosses, frees, sendable) depth 30 fits 100000
